@@ -1,0 +1,7 @@
+pub mod LabelLaws
+pub mod Places
+pub mod Ranges
+mod Marked
+mod Tests
+mod Weights
+mod Widths

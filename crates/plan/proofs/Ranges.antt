@@ -1,0 +1,213 @@
+-- What code and rules need of a plan, and: an accepted plan has it.
+use mathlib.Core.Path.{_≡_, refl, ap, _∙_}
+use mathlib.Core.Bool.{Bool, true, false, cond, not, _&&_}
+use mathlib.Core.List.{List}
+use Prim.Native.Nat.{ℕ, zero, suc, _+_, _*_, _^_, _≤_, _<_, max}
+use native.Mathlib.Nat.{le-trans, mul-le-mul, le-max-left, le-max-right}
+use native.Mathlib.Decide.{ℕ-discrete}
+use native.Mathlib.Omega.{arith}
+use lib.Dec.{T as Is, ltb, leb, eqb, ltb→lt, leb→le, eqb→eq}
+use lib.Ieee.Fits.{and-l, and-r}
+use lib.ListN.{length}
+use Rattle.plan.specs.Label.{plain}
+use Rattle.plan.specs.Plan.{Plan, cells}
+use Rattle.plan.specs.Layout.{planOf, greatest, mostAt, downAt, largestOf, lengthFor}
+use Rattle.plan.specs.Refusal.{every, sizesFit, observerFits, linkEndsFit, durationFits, linkFits, edgeEndsFit, labelFits, edgeFits, refusalOf, refusal, Accepted}
+
+-- of any plan, also of one that no bytes stand for: rows lie among the points, durations are ordered, M bounds what a rule adds to a wait
+pub record WellFormed (P : Plan) : Type 0 where
+  pub two : 1 < P .points
+  pub observer-in : (j : ℕ) → j < P .propositions → (0 < P .observer j) × (P .observer j < P .points)
+  pub activation-in : (i : ℕ) → i < P .links → P .activation i < P .points
+  pub finish-in : (i : ℕ) → i < P .links → (0 < P .finish i) × (P .finish i < P .points)
+  pub durations : (i : ℕ) → i < P .links → (0 < P .least i) × (P .least i < P .most i)
+  pub from-in : (i : ℕ) → i < P .edges → P .from i < P .points
+  pub to-in : (i : ℕ) → i < P .edges → P .to i < P .points
+  pub label-in : (i : ℕ) → i < P .edges → P .label i < 4 ^ P .propositions
+  pub label-plain : (i : ℕ) → i < P .edges → Is (plain (P .propositions) (P .label i))
+  pub most-le : (i : ℕ) → i < P .links → P .most i ≤ P .largest
+  pub down-le : (i : ℕ) → i < P .edges → P .down i ≤ P .largest
+
+-- the bounds of document 01 that the code's numbers rest on
+pub record Bounded (P : Plan) : Type 0 where
+  pub points-in : P .points ≤ 32
+  pub propositions-in : P .propositions ≤ 4
+  pub links-in : P .links ≤ 4
+  pub edges-in : P .edges ≤ 128
+  pub cells-in : cells P ≤ 16384
+  pub up-in : (i : ℕ) → i < P .edges → P .up i ≤ 3600
+  pub largest-in : P .largest ≤ 3600
+  pub horizon-in : P .horizon ≤ 115200
+
+-- ---- tests of every row, and of a chain of refusals
+every-at : (f : ℕ → Bool) (n i : ℕ) → Is (every f n) → i < n → Is (f i)
+unfolding every
+every-at f zero i t h = absurd (omega arith)
+every-at f (suc n) i t h = go (every-at f n i (and-l (every f n) (f n) t)) (ℕ-discrete i n)
+  where
+    go : (i < n → Is (f i)) → Dec (i ≡ n) → Is (f i)
+    go r (yes e) = rw e (and-r (every f n) (f n) t)
+    go r (no e) = r (omega arith)
+
+past : (b : Bool) (k n : ℕ) → cond b (suc k) n ≡ 0 → n ≡ 0
+past true k n e = absurd (omega arith)
+past false k n e = e
+
+unless : (b : Bool) (k n : ℕ) → cond (not b) (suc k) n ≡ 0 → Is b × (n ≡ 0)
+unless true k n e = (tt, e)
+unless false k n e = absurd (omega arith)
+
+-- ---- the largest of some numbers
+greatest-ge : (f : ℕ → ℕ) (n i : ℕ) → i < n → f i ≤ greatest f n
+unfolding greatest
+greatest-ge f zero i h = absurd (omega arith)
+greatest-ge f (suc n) i h = go (greatest-ge f n i) (ℕ-discrete i n)
+  where
+    go : (i < n → f i ≤ greatest f n) → Dec (i ≡ n) → f i ≤ max (greatest f n) (f n)
+    go r (yes e) = rw e (le-max-right (greatest f n) (f n))
+    go r (no e) = le-trans (r (omega arith)) (le-max-left (greatest f n) (f n))
+
+greatest-le : (f : ℕ → ℕ) (b n : ℕ) → ((i : ℕ) → i < n → f i ≤ b) → greatest f n ≤ b
+unfolding greatest
+greatest-le f b zero h = omega arith
+greatest-le f b (suc n) h = omega (arith, greatest-le f b n (λ i k. h i (omega arith)), h n (omega arith))
+
+-- ---- what acceptance says, refusal by refusal
+record Judged (bs : List ℕ) (P : Plan) : Type 0 where
+  sizes : Is (sizesFit P)
+  long : length bs ≡ lengthFor P
+  observers : Is (every (observerFits P) (P .propositions))
+  links-fit : Is (every (linkFits P) (P .links))
+  edges-fit : Is (every (edgeFits bs P) (P .edges))
+
+judged : (bs : List ℕ) (P : Plan) → refusalOf bs P ≡ 0 → Judged bs P
+unfolding refusalOf
+judged bs P e =
+    let a = past (ltb (length bs) 4) 0 _ e in
+    let b = unless (sizesFit P) 1 _ a in
+    let c = unless (eqb (length bs) (lengthFor P)) 0 _ (b .1) in
+    let d = unless (every (observerFits P) (P .propositions)) 2 _ (c .1) in
+    let f = unless (every (linkFits P) (P .links)) 3 _ (d .1) in
+    let g = unless (every (edgeFits bs P) (P .edges)) 4 0 (f .1) in
+    record { sizes = b .0; long = eqb→eq _ _ (c .0); observers = d .0; links-fit = f .0; edges-fit = g .0 }
+
+module _ (bs : List ℕ) (P : Plan) (j : Judged bs P) where
+  points-fit : (2 ≤ P .points) × (P .points ≤ 32)
+  unfolding sizesFit
+  points-fit = let t = j .sizes in (leb→le 2 (P .points) (search (and-l, and-r)), leb→le (P .points) 32 (search (and-l, and-r)))
+
+  propositions-fit : P .propositions ≤ 4
+  unfolding sizesFit
+  propositions-fit = let t = j .sizes in leb→le (P .propositions) 4 (search (and-l, and-r))
+
+  links-few : P .links ≤ 4
+  unfolding sizesFit
+  links-few = let t = j .sizes in leb→le (P .links) 4 (search (and-l, and-r))
+
+  edges-few : P .edges ≤ 128
+  unfolding sizesFit
+  edges-few = let t = j .sizes in leb→le (P .edges) 128 (search (and-l, and-r))
+
+  cells-fit : cells P ≤ 16384
+  unfolding sizesFit
+  cells-fit = let t = j .sizes in leb→le (cells P) 16384 (search (and-l, and-r))
+
+  observer-fit : (i : ℕ) → i < P .propositions → (0 < P .observer i) × (P .observer i < P .points)
+  unfolding observerFits
+  observer-fit i h =
+      let t = every-at (observerFits P) (P .propositions) i (j .observers) h in
+      (ltb→lt 0 (P .observer i) (search (and-l, and-r)), ltb→lt (P .observer i) (P .points) (search (and-l, and-r)))
+
+  record LinkFit (i : ℕ) : Type 0 where
+    activation-fit : P .activation i < P .points
+    finish-fit : (0 < P .finish i) × (P .finish i < P .points)
+    durations-fit : (0 < P .least i) × (P .least i < P .most i)
+    most-fit : P .most i ≤ 3600
+
+  link-fit : (i : ℕ) → i < P .links → LinkFit i
+  unfolding linkFits linkEndsFit durationFits
+  link-fit i h =
+      let t = every-at (linkFits P) (P .links) i (j .links-fit) h in
+      record {
+        activation-fit = ltb→lt (P .activation i) (P .points) (search (and-l, and-r) depth 9);
+        finish-fit = (ltb→lt 0 (P .finish i) (search (and-l, and-r) depth 9), ltb→lt (P .finish i) (P .points) (search (and-l, and-r) depth 9));
+        durations-fit = (ltb→lt 0 (P .least i) (search (and-l, and-r) depth 9), ltb→lt (P .least i) (P .most i) (search (and-l, and-r) depth 9));
+        most-fit = leb→le (P .most i) 3600 (search (and-l, and-r) depth 9);
+      }
+
+  record EdgeFit (i : ℕ) : Type 0 where
+    from-fit : P .from i < P .points
+    to-fit : P .to i < P .points
+    label-fit : P .label i < 4 ^ P .propositions
+    plain-fit : Is (plain (P .propositions) (P .label i))
+    up-fit : P .up i ≤ 3600
+    down-fit : P .down i ≤ 3600
+
+  edge-fit : (i : ℕ) → i < P .edges → EdgeFit i
+  unfolding edgeFits edgeEndsFit labelFits
+  edge-fit i h =
+      let t = every-at (edgeFits bs P) (P .edges) i (j .edges-fit) h in
+      record {
+        from-fit = ltb→lt (P .from i) (P .points) (search (and-l, and-r) depth 9);
+        to-fit = ltb→lt (P .to i) (P .points) (search (and-l, and-r) depth 9);
+        label-fit = ltb→lt (P .label i) (4 ^ P .propositions) (search (and-l, and-r) depth 9);
+        plain-fit = search (and-l, and-r) depth 9;
+        up-fit = leb→le (P .up i) 3600 (search (and-l, and-r) depth 9);
+        down-fit = leb→le (P .down i) 3600 (search (and-l, and-r) depth 9);
+      }
+
+-- ---- M and the horizon of a plan's bytes
+module _ (bs : List ℕ) where
+  most-under : (i : ℕ) → i < planOf bs .links → planOf bs .most i ≤ planOf bs .largest
+  unfolding planOf largestOf
+  most-under i h = le-trans (greatest-ge (mostAt bs) _ i h) (le-max-left _ _)
+
+  down-under : (i : ℕ) → i < planOf bs .edges → planOf bs .down i ≤ planOf bs .largest
+  unfolding planOf largestOf
+  down-under i h = le-trans (greatest-ge (downAt bs) _ i h) (le-max-right _ _)
+
+  largest-under : (b : ℕ) → ((i : ℕ) → i < planOf bs .links → planOf bs .most i ≤ b) → ((i : ℕ) → i < planOf bs .edges → planOf bs .down i ≤ b) → planOf bs .largest ≤ b
+  unfolding planOf largestOf
+  largest-under b f g = omega (arith, greatest-le (mostAt bs) b _ f, greatest-le (downAt bs) b _ g)
+
+  pub horizon-is : planOf bs .horizon ≡ planOf bs .points * planOf bs .largest
+  unfolding planOf
+  horizon-is = refl
+
+  module _ (accepted : Accepted bs) where
+    fit : Judged bs (planOf bs)
+    unfolding refusal
+    fit = judged bs (planOf bs) accepted
+
+    pub accepted-length : length bs ≡ lengthFor (planOf bs)
+    accepted-length = fit .long
+
+    pub accepted-well-formed : WellFormed (planOf bs)
+    accepted-well-formed = record {
+      two = points-fit bs (planOf bs) fit .0;
+      observer-in = observer-fit bs (planOf bs) fit;
+      activation-in = λ i h. link-fit bs (planOf bs) fit i h .activation-fit;
+      finish-in = λ i h. link-fit bs (planOf bs) fit i h .finish-fit;
+      durations = λ i h. link-fit bs (planOf bs) fit i h .durations-fit;
+      from-in = λ i h. edge-fit bs (planOf bs) fit i h .from-fit;
+      to-in = λ i h. edge-fit bs (planOf bs) fit i h .to-fit;
+      label-in = λ i h. edge-fit bs (planOf bs) fit i h .label-fit;
+      label-plain = λ i h. edge-fit bs (planOf bs) fit i h .plain-fit;
+      most-le = most-under;
+      down-le = down-under;
+    }
+
+    largest-fit : planOf bs .largest ≤ 3600
+    largest-fit = largest-under 3600 (λ i h. link-fit bs (planOf bs) fit i h .most-fit) (λ i h. edge-fit bs (planOf bs) fit i h .down-fit)
+
+    pub accepted-bounded : Bounded (planOf bs)
+    accepted-bounded = record {
+      points-in = points-fit bs (planOf bs) fit .1;
+      propositions-in = propositions-fit bs (planOf bs) fit;
+      links-in = links-few bs (planOf bs) fit;
+      edges-in = edges-few bs (planOf bs) fit;
+      cells-in = cells-fit bs (planOf bs) fit;
+      up-in = λ i h. edge-fit bs (planOf bs) fit i h .up-fit;
+      largest-in = largest-fit;
+      horizon-in = rw horizon-is (mul-le-mul (points-fit bs (planOf bs) fit .1) largest-fit);
+    }

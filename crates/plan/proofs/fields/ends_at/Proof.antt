@@ -1,0 +1,24 @@
+-- `plan::fields::ends_at` meets its contract.
+use borrow.Author.Needs.{needs}
+use Rattle.plan.specs.Layout.{endsAt}
+use Rattle.plan.proofs.fields.ends_at.Statement.{statement}
+use Rattle.plan.proofs.fields.ends_at.Tie as tie
+
+byte-at-requires : tie.Need-byte-at-requires
+byte-at-requires c κs = search needs
+
+add-result : tie.Need-add-result
+add-result c = search needs
+
+mul-result : tie.Need-mul-result
+mul-result c = search needs
+
+add-result-2 : tie.Need-add-result-2
+add-result-2 c = search needs
+
+returns : tie.Need-returns
+unfolding endsAt
+returns c = search needs
+
+pub ends-at-spec : {M : Type 1} → statement M
+ends-at-spec = tie.close (tie.spec byte-at-requires add-result mul-result add-result-2 returns)

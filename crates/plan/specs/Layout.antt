@@ -1,0 +1,71 @@
+-- The bytes of a plan (document 01, "The plan": "File, high byte first"). Nothing else knows where a field stands.
+use mathlib.Core.Bool.{cond}
+use mathlib.Core.List.{List}
+use Prim.Native.Nat.{ℕ, zero, suc, _+_, _-_, _*_, max}
+use lib.Dec.{ltb}
+use Rattle.plan.specs.Bytes.{byteAt, wordAt}
+use Rattle.plan.specs.Plan.{Plan}
+
+-- Rows are counted over both arrays: k links, then e edges.
+-- where the two ends of row r stand, in the first array
+unfoldable pub endsAt : List ℕ → ℕ → ℕ
+endsAt bs r = 4 + byteAt bs 1 + 2 * r
+
+-- where the four bytes of row r stand, in the second array
+unfoldable pub dataAt : List ℕ → ℕ → ℕ
+dataAt bs r = 4 + byteAt bs 1 + 2 * (byteAt bs 2 + byteAt bs 3) + 4 * r
+
+-- the row of edge i
+unfoldable pub edgeRow : List ℕ → ℕ → ℕ
+edgeRow bs i = byteAt bs 2 + i
+
+-- a 16-bit weight u in two's complement: u where u ≥ 0, and -u where u < 0
+unfoldable pub upOf : ℕ → ℕ
+upOf w = cond (ltb w 32768) w 0
+
+unfoldable pub downOf : ℕ → ℕ
+downOf w = cond (ltb w 32768) 0 (65536 - w)
+
+-- the largest of f 0 .. f (n - 1), or 0 if there are none
+unfoldable pub greatest : (ℕ → ℕ) → ℕ → ℕ
+greatest f zero = 0
+greatest f (suc n) = max (greatest f n) (f n)
+
+unfoldable pub mostAt : List ℕ → ℕ → ℕ
+mostAt bs i = wordAt bs (dataAt bs i + 2)
+
+unfoldable pub downAt : List ℕ → ℕ → ℕ
+downAt bs i = downOf (wordAt bs (dataAt bs (edgeRow bs i)))
+
+-- M: the largest of all y and all -u with u < 0, or 0 if there are none
+unfoldable pub largestOf : List ℕ → ℕ
+largestOf bs = max (greatest (mostAt bs) (byteAt bs 2)) (greatest (downAt bs) (byteAt bs 3))
+
+unfoldable pub planOf : List ℕ → Plan
+planOf bs =
+    record {
+      points = byteAt bs 0;
+      propositions = byteAt bs 1;
+      links = byteAt bs 2;
+      edges = byteAt bs 3;
+      observer = λ j. byteAt bs (4 + j);
+      activation = λ i. byteAt bs (endsAt bs i);
+      finish = λ i. byteAt bs (endsAt bs i + 1);
+      least = λ i. wordAt bs (dataAt bs i);
+      most = mostAt bs;
+      from = λ i. byteAt bs (endsAt bs (edgeRow bs i));
+      to = λ i. byteAt bs (endsAt bs (edgeRow bs i) + 1);
+      up = λ i. upOf (wordAt bs (dataAt bs (edgeRow bs i)));
+      down = downAt bs;
+      label = λ i. byteAt bs (dataAt bs (edgeRow bs i) + 2);
+      largest = largestOf bs;
+      horizon = byteAt bs 0 * largestOf bs;
+    }
+
+-- the last byte of edge i, which no rule sees
+unfoldable pub spareAt : List ℕ → ℕ → ℕ
+spareAt bs i = byteAt bs (dataAt bs (edgeRow bs i) + 3)
+
+-- the length that the sizes ask for
+unfoldable pub lengthFor : Plan → ℕ
+lengthFor P = 4 + P .propositions + 6 * (P .links + P .edges)

@@ -1,0 +1,6 @@
+pub mod Bytes
+pub mod Label
+pub mod LinkSet
+pub mod Plan
+pub mod Layout
+pub mod Refusal

@@ -1,0 +1,50 @@
+// M and the horizon.
+use crate::fields::edge_down;
+use crate::fields::edges;
+use crate::fields::link_most;
+use crate::fields::links;
+use crate::fields::points;
+ghost use mathlib.Core.Path.{_≡_};
+ghost use Prim.Native.Nat.{_<_, max};
+ghost use Rattle.plan.specs.Layout.{planOf, greatest, mostAt, downAt};
+
+fn greater(a: u64, b: u64) -> u64
+    ensures { λ r. ⌜ r ≡ max a b ⌝ }
+{
+    if a < b { b } else { a }
+}
+
+fn greatest_most(plan: &[u8]) -> u64
+    ensures { λ r. ⌜ (r ≡ greatest (mostAt (now (plan .entry))) (planOf (now (plan .entry)) .links)) × (r < 65536) ⌝ }
+{
+    let mut most = 0;
+    let n = links(plan);
+    for i in 0..n {
+        most = greater(most, link_most(plan, i));
+    }
+    most
+}
+
+fn greatest_down(plan: &[u8]) -> u64
+    ensures { λ r. ⌜ (r ≡ greatest (downAt (now (plan .entry))) (planOf (now (plan .entry)) .edges)) × (r < 65536) ⌝ }
+{
+    let mut most = 0;
+    let n = edges(plan);
+    for i in 0..n {
+        most = greater(most, edge_down(plan, i));
+    }
+    most
+}
+
+// M: the largest of all y and all -u with u < 0, or 0.
+pub fn largest(plan: &[u8]) -> u64
+    ensures { λ r. ⌜ (r ≡ planOf (now (plan .entry)) .largest) × (r < 65536) ⌝ }
+{
+    greater(greatest_most(plan), greatest_down(plan))
+}
+
+pub fn horizon(plan: &[u8]) -> u64
+    ensures { λ r. ⌜ (r ≡ planOf (now (plan .entry)) .horizon) × (r < 16777216) ⌝ }
+{
+    points(plan) as u64 * largest(plan)
+}

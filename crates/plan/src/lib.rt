@@ -1,0 +1,34 @@
+// A plan read from its bytes, its labels, and its refusals 1 to 5.
+mod bounds;
+mod bytes;
+mod fields;
+mod label;
+mod marks;
+mod refusals;
+
+pub use bounds::horizon;
+pub use bounds::largest;
+pub use fields::cells;
+pub use fields::edge_down;
+pub use fields::edge_from;
+pub use fields::edge_label;
+pub use fields::edge_spare;
+pub use fields::edge_to;
+pub use fields::edge_up;
+pub use fields::edges;
+pub use fields::labels;
+pub use fields::link_activation;
+pub use fields::link_finish;
+pub use fields::link_least;
+pub use fields::link_most;
+pub use fields::links;
+pub use fields::observer;
+pub use fields::points;
+pub use fields::propositions;
+pub use fields::width;
+pub use label::clear_digit;
+pub use label::digit;
+pub use label::is_plain;
+pub use label::join;
+pub use marks::plain_marks;
+pub use refusals::refusal;
