@@ -4,4 +4,4 @@ pub mod Ranges
 mod Marked
 mod Tests
 mod Weights
-mod Widths
+pub mod Widths

@@ -1,12 +1,12 @@
 -- What code and rules need of a plan, and: an accepted plan has it.
-use mathlib.Core.Path.{_≡_, refl, ap, _∙_}
-use mathlib.Core.Bool.{Bool, true, false, cond, not, _&&_}
+use mathlib.Core.Path.{_≡_, refl}
+use mathlib.Core.Bool.{Bool, true, false, cond, not}
 use mathlib.Core.List.{List}
-use Prim.Native.Nat.{ℕ, zero, suc, _+_, _*_, _^_, _≤_, _<_, max}
+use Prim.Native.Nat.{ℕ, zero, suc, _*_, _^_, _≤_, _<_, max}
 use native.Mathlib.Nat.{le-trans, mul-le-mul, le-max-left, le-max-right}
 use native.Mathlib.Decide.{ℕ-discrete}
 use native.Mathlib.Omega.{arith}
-use lib.Dec.{T as Is, ltb, leb, eqb, ltb→lt, leb→le, eqb→eq}
+use lib.Dec.{T as Is, ltb, eqb, ltb→lt, leb→le, eqb→eq}
 use lib.Ieee.Fits.{and-l, and-r}
 use lib.ListN.{length}
 use Rattle.plan.specs.Label.{plain}
@@ -211,3 +211,13 @@ module _ (bs : List ℕ) where
       largest-in = largest-fit;
       horizon-in = rw horizon-is (mul-le-mul (points-fit bs (planOf bs) fit .1) largest-fit);
     }
+
+    -- the number of a row or of a proposition fits a byte, as its accessors ask
+    pub edge-byte : (i : ℕ) → i < planOf bs .edges → i < 256
+    edge-byte i h = omega (arith, accepted-bounded .edges-in)
+
+    pub link-byte : (i : ℕ) → i < planOf bs .links → i < 256
+    link-byte i h = omega (arith, accepted-bounded .links-in)
+
+    pub proposition-byte : (j : ℕ) → j < planOf bs .propositions → j < 256
+    proposition-byte j h = omega (arith, accepted-bounded .propositions-in)

@@ -8,6 +8,8 @@ mod refusals;
 
 pub use bounds::horizon;
 pub use bounds::largest;
+pub use bytes::byte_at;
+pub use bytes::word_at;
 pub use fields::cells;
 pub use fields::edge_down;
 pub use fields::edge_from;

@@ -1,0 +1,60 @@
+-- A place with a bit of the mask gives nothing, and any other is raised as the step says.
+use mathlib.Core.Path.{refl, sym, ap, _∙_}
+use Prim.Native.Nat.{ℕ, _+_, _≤_}
+use native.Mathlib.Omega.{arith}
+use lib.ListN.{getD}
+use denote.Ref.{now}
+use Rattle.rules.proofs.ShapeLaws.{removed-le, remove-pass, remove-step}
+use borrow.Author.Needs.{needs}
+use Rattle.filling.proofs.cells.remove_at.Statement.{statement}
+use Rattle.filling.proofs.cells.remove_at.Tie as tie
+
+touches-requires : tie.Need-touches-requires
+touches-requires c κs = search needs
+
+returns : tie.Need-returns
+returns c = (λ m e. remove-pass _ _ _ _ _ _ _ _ _ (sym (c .before .touches .ensures) ∙ c .if1 .taken), refl)
+
+add-widened : tie.Need-add-widened
+add-widened c = search needs
+
+mul-widened : tie.Need-mul-widened
+mul-widened c = search needs
+
+shared-slice-read-widened : tie.Need-shared-slice-read-widened
+shared-slice-read-widened c = search needs
+
+widened-requires : tie.Need-widened-requires
+widened-requires c κs = search needs
+
+removed-requires : tie.Need-removed-requires
+removed-requires c κs = search needs
+
+raise-requires : tie.Need-raise-requires
+raise-requires c κs =
+    let v : c .before .removed .result ≤ c .before .before .before .before .before .before .before .before .args .wait = rw (c .before .removed .ensures) (removed-le _ _ _ _ _) in
+    (omega arith, omega (arith, v))
+
+same-length : tie.Need-same-length
+same-length c = search needs
+
+returns-2 : tie.Need-returns-2
+returns-2 c =
+    let s = c .before .before .before .before .before .before .before .before .before .before .before .args in
+    let r = c .before .before .raise .ensures in
+    (λ m e. remove-step m (now (s .first)) (s .by .other) (s .by .mask) (s .by .add) (s .place) (s .wait) (s .c) _ _ _ _ (c .before .before .before .before .before .widened .ensures .0 ∙ ap (λ (x : ℕ). getD (now (s .first)) (x + s .c) 0) e) (c .before .before .before .before .removed .ensures) (r .0), r .1)
+
+pub remove-at-spec : {M : Type 1} → statement M
+remove-at-spec =
+    tie.close
+    (tie.spec
+    touches-requires
+    returns
+    add-widened
+    mul-widened
+    shared-slice-read-widened
+    widened-requires
+    removed-requires
+    raise-requires
+    same-length
+    returns-2)

@@ -1,0 +1,43 @@
+-- At another point the part stays, and at the observing point the loop over cells is the proposition's.
+use mathlib.Core.Path.{refl}
+use native.Mathlib.Omega.{arith}
+use denote.Ref.{now}
+use Rattle.plan.specs.Layout.{planOf}
+use Rattle.plan.proofs.Ranges.{proposition-byte, accepted-bounded}
+use Rattle.rules.proofs.ShapeLaws.{clear-by, row-in, when-same, when-other}
+use borrow.Author.Needs.{needs}
+use Rattle.filling.proofs.fill.own_literal_in.Statement.{statement}
+use Rattle.filling.proofs.fill.own_literal_in.Tie as tie
+
+observer-requires : tie.Need-observer-requires
+observer-requires c κs = proposition-byte (now (c .before .before .before .args .plan)) (c .before .before .before .pre .0 .accepted) _ (c .before .before .before .pre .2)
+
+returns : tie.Need-returns
+returns c = (when-other _ _ _ _ _ (c .before .observer .ensures .0) (c .if1 .taken), refl)
+
+digit-mask-requires : tie.Need-digit-mask-requires
+digit-mask-requires c κs = omega (arith, accepted-bounded (now (c .before .before .before .before .before .before .args .plan)) (c .before .before .before .before .before .before .pre .0 .accepted) .propositions-in)
+
+clear-in-requires : tie.Need-clear-in-requires
+clear-in-requires c κs =
+    let s = c .before .before .before .before .before .before .before in
+    (row-in (planOf (now (s .args .plan))) (s .args .x) _ _ _ (s .pre .3) (s .pre .0 .long-first) (s .pre .1) refl, rw (s .pre .1) (s .pre .0 .long-part))
+
+same-length : tie.Need-same-length
+same-length c = search needs
+
+returns-2 : tie.Need-returns-2
+returns-2 c =
+    let r = c .before .before .clear-in .ensures in
+    (when-same _ _ _ _ _ _ (c .before .before .before .before .before .before .observer .ensures .0) (c .before .before .before .before .before .if1 .left) (clear-by _ _ _ _ _ _ _ _ (c .before .before .before .before .before .before .before .before .before .before .pre .1) (c .before .before .before .digit-mask .ensures) (r .0)), r .1)
+
+pub own-literal-in-spec : {M : Type 1} → statement M
+own-literal-in-spec =
+    tie.close
+    (tie.spec
+    observer-requires
+    returns
+    digit-mask-requires
+    clear-in-requires
+    same-length
+    returns-2)

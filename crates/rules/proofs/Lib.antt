@@ -1,0 +1,16 @@
+pub mod ApplyLaws
+pub mod SameLines
+pub mod Raising
+pub mod Deriving
+pub mod InRange
+pub mod Monotone
+pub mod Cells
+pub mod Next
+pub mod Parts
+pub mod Sound
+pub mod Fill
+pub mod Growth
+pub mod ShapeLaws
+pub mod ShapeGives
+pub mod ShapeRows
+pub mod ShapeWhole
