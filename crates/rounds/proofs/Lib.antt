@@ -1,0 +1,10 @@
+pub mod Bound
+pub mod Stopping
+pub mod Sums
+pub mod Verdict
+pub mod Demand3
+pub mod Small
+pub mod Tabling
+pub mod Turns
+pub mod Checking
+pub mod Bench

@@ -1,0 +1,62 @@
+-- A refusal leaves the tables as they were; else the check of an accepted plan answers. Demand 3 follows from the outcome and the tables.
+use mathlib.Core.Path.{sym, _∙_}
+use native.Mathlib.Omega.{arith}
+use denote.Ref.{now}
+use borrow.Author.Needs.{needs}
+use Rattle.plan.specs.Layout.{planOf}
+use Rattle.rounds.proofs.Tabling.{sizes-few}
+use Rattle.rounds.proofs.Checking.{check-all, check-refused, check-short, short-first, short-second}
+use Rattle.rounds.proofs.running.check.Statement.{statement}
+use Rattle.rounds.proofs.running.check.Tie as tie
+
+refusal-requires : tie.Need-refusal-requires
+refusal-requires c κs = search needs
+
+returns : tie.Need-returns
+returns c =
+    let s = c .before .before .before .before .before in
+    check-refused (now (s .args .plan)) (now (s .args .first)) (now (s .args .second)) (s .args .limit) (c .before .refusal .result) (c .before .refusal .ensures) (c .if1 .taken)
+
+cells-requires : tie.Need-cells-requires
+cells-requires c κs = let s = c .before .before .before .before .before in sizes-few (now (s .args .plan)) (sym (c .before .refusal .ensures) ∙ c .if1 .left)
+
+returns-2 : tie.Need-returns-2
+returns-2 c =
+    let s = c .before .before .before .before .before .before .before in
+    let bs = now (s .args .plan) in
+    check-short bs (now (s .args .first)) (now (s .args .second)) (s .args .limit) (sym (c .before .before .before .refusal .ensures) ∙ c .before .before .if1 .left) (short-first (planOf bs) (now (s .args .first)) (now (s .args .second)) (omega (arith, c .before .cells .ensures)))
+
+returns-3 : tie.Need-returns-3
+returns-3 c =
+    let s = c .before .before .before .before .before .before .before .before in
+    let bs = now (s .args .plan) in
+    check-short bs (now (s .args .first)) (now (s .args .second)) (s .args .limit) (sym (c .before .before .before .before .refusal .ensures) ∙ c .before .before .before .if1 .left) (short-second (planOf bs) (now (s .args .first)) (now (s .args .second)) (omega (arith, c .before .before .cells .ensures)) (omega (arith, c .before .before .cells .ensures)))
+
+checked-requires : tie.Need-checked-requires
+checked-requires c κs = search needs
+
+same-length : tie.Need-same-length
+same-length c = search needs
+
+same-length-2 : tie.Need-same-length-2
+same-length-2 c = search needs
+
+returns-4 : tie.Need-returns-4
+returns-4 c =
+    let k = c .before .before .before .before .checked in
+    let s = c .before .before .before .before .before .before .before .before .before .before .before .before .before .before .before in
+    check-all (now (s .args .plan)) (now (s .args .first)) (now (s .args .second)) (s .args .limit) _ _ _ (k .ensures)
+
+pub check-spec : {M : Type 1} → statement M
+check-spec =
+    tie.close
+    (tie.spec
+    refusal-requires
+    returns
+    cells-requires
+    returns-2
+    returns-3
+    checked-requires
+    same-length
+    same-length-2
+    returns-4)

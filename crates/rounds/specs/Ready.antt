@@ -1,0 +1,43 @@
+-- What the functions that make rounds are lent, and what they leave there.
+use mathlib.Core.Path.{_≡_}
+use mathlib.Core.Bool.{Bool, _||_}
+use mathlib.Core.List.{List, _++_}
+use mathlib.Core.Option.{none}
+use Prim.Native.Nat.{ℕ, _≤_}
+use lib.ListN.{length, take, drop}
+use Rattle.plan.specs.Label.{Marks}
+use Rattle.plan.specs.Plan.{Plan, cells}
+use Rattle.plan.specs.Layout.{planOf}
+use Rattle.plan.specs.Refusal.{Accepted}
+use Rattle.rules.specs.Tables.{next}
+use Rattle.filling.specs.Lent.{AtMost, laidOver}
+use Rattle.rounds.specs.Rounds.{tableFrom, same, firstAlarmWaits, roundsTo}
+use Rattle.rounds.specs.Outcomes.{Outcome, runOutcome, runTable}
+
+-- an accepted plan, the marks, the plan's horizon, and two tables that have all cells
+pub record Ready (plan marks : List ℕ) (horizon : ℕ) (first second : List ℕ) : Type 0 where
+  pub accepted : Accepted plan
+  pub marked : Marks marks
+  pub horizon-is : horizon ≡ planOf plan .horizon
+  pub long-first : cells (planOf plan) ≤ length first
+  pub long-second : cells (planOf plan) ≤ length second
+
+-- the waits of the rounds from T leave room for a duration in 32 bits while none stopped
+pub record RoomFrom (P : Plan) (T : List ℕ) : Type 0 where
+  pub room : (r : ℕ) → roundsTo P T r ≡ none → AtMost 4000000000 (tableFrom P T r)
+
+-- one round from the cells of F left its table in the cells of both tables, and whether it stops is known
+pub record Turned (P : Plan) (F G : List ℕ) (stops : Bool) (F′ G′ : List ℕ) : Type 0 where
+  pub stops-is : stops ≡ firstAlarmWaits P (next P (take (cells P) F)) || same (take (cells P) F) (next P (take (cells P) F))
+  pub first-is : F′ ≡ laidOver (cells P) (next P (take (cells P) F)) F
+  pub second-is : G′ ≡ laidOver (cells P) (next P (take (cells P) F)) G
+  pub first-length : length F′ ≡ length F
+  pub second-length : length G′ ≡ length G
+
+-- rounds from the cells of F up to a limit ended with an outcome, and left the last round's table in the cells of both tables
+pub record Ran (P : Plan) (F G : List ℕ) (limit : ℕ) (o : Outcome) (F′ G′ : List ℕ) : Type 0 where
+  pub outcome-is : o ≡ runOutcome P (take (cells P) F) limit
+  pub first-is : F′ ≡ runTable P (take (cells P) F) limit ++ drop (cells P) F
+  pub second-is : G′ ≡ runTable P (take (cells P) F) limit ++ drop (cells P) G
+  pub first-length : length F′ ≡ length F
+  pub second-length : length G′ ≡ length G

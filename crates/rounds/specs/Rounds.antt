@@ -1,0 +1,46 @@
+-- Rounds, R and the outcome with a limit (document 01, "Lines and the six rules", last paragraph, and "The check"), from any starting table.
+use mathlib.Core.Bool.{Bool, true, false, cond, _&&_, _||_}
+use mathlib.Core.List.{List, [], _∷_}
+use mathlib.Core.Option.{Option, none, some}
+use Prim.Native.Nat.{ℕ, zero, suc, _-_}
+use lib.Dec.{ltb, eqb}
+use lib.ListN.{replicate, take}
+use Rattle.plan.specs.Plan.{Plan, width, cells}
+use Rattle.rules.specs.Tables.{next}
+
+-- table(r) of the rounds that start from T
+abbrev pub tableFrom : Plan → List ℕ → ℕ → List ℕ
+tableFrom P T zero = T
+tableFrom P T (suc r) = next P (tableFrom P T r)
+
+-- "Table(0) holds all zeros"
+abbrev pub zeros : Plan → List ℕ
+zeros P = replicate (cells P) 0
+
+-- two tables have the same cells
+abbrev pub same : List ℕ → List ℕ → Bool
+same [] [] = true
+same [] (y ∷ ys) = false
+same (x ∷ xs) [] = false
+same (x ∷ xs) (y ∷ ys) = eqb x y && same xs ys
+
+abbrev pub anyAbove : List ℕ → Bool
+anyAbove [] = false
+anyAbove (x ∷ xs) = ltb 0 x || anyAbove xs
+
+-- "Z has a cell above 0": the first cells of a table are Z's
+abbrev pub firstAlarmWaits : Plan → List ℕ → Bool
+firstAlarmWaits P T = anyAbove (take (width P) T)
+
+-- "Z has a cell above 0 or table(r) = table(r - 1)"
+abbrev pub stopsAt : Plan → List ℕ → ℕ → Bool
+stopsAt P T r = firstAlarmWaits P (tableFrom P T r) || same (tableFrom P T (r - 1)) (tableFrom P T r)
+
+-- the least of r, r + 1, .. that stops, among the first n of them
+abbrev pub firstStop : Plan → List ℕ → ℕ → ℕ → Option ℕ
+firstStop P T r zero = none
+firstStop P T r (suc n) = let later = firstStop P T (suc r) n in cond (stopsAt P T r) (some r) later
+
+-- R, "the least r ≥ 1" that stops, if it is at most the limit
+abbrev pub roundsTo : Plan → List ℕ → ℕ → Option ℕ
+roundsTo P T limit = firstStop P T 1 limit

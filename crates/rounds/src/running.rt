@@ -1,0 +1,136 @@
+// Rounds up to a limit, and the check.
+use crate::Answer;
+use crate::tables::clear_cells;
+use crate::tables::copy_cells;
+use crate::tables::first_alarm_waits;
+use crate::tables::round;
+use crate::tables::same_cells;
+use plan::cells;
+use plan::horizon as horizon_of;
+use plan::plain_marks;
+use plan::points;
+use plan::refusal;
+use plan::width as point_width;
+ghost use mathlib.Core.Path.{_≡_};
+ghost use mathlib.Core.Bool.{_||_};
+ghost use Prim.Native.Nat.{_*_, _≤_};
+ghost use lib.ListN.{length, take};
+ghost use Rattle.plan.specs.Plan.{cells as cellsOf};
+ghost use Rattle.plan.specs.Layout.{planOf};
+ghost use Rattle.plan.specs.Refusal.{Accepted};
+ghost use Rattle.filling.specs.Lent.{AtMost};
+ghost use Rattle.rounds.specs.Ready.{Ready, RoomFrom, Turned, Ran};
+ghost use Rattle.rounds.specs.Rounds.{same, anyAbove};
+ghost use Rattle.rounds.specs.Outcomes.{kept, broken, pick, outcomeOf, checkOutcome, checkTable};
+ghost use Rattle.rounds.specs.Demand.{Demand3, enoughRounds};
+
+// Whether the round from the first table to the second stops the rounds.
+fn stops(first: &[u32], second: &[u32], points: usize, width: usize) -> bool
+    requires { ⌜ (width ≤ length (now second)) × (points * width ≤ length (now first)) × (points * width ≤ length (now second)) ⌝ }
+    ensures { λ r. ⌜ r ≡ anyAbove (take width (now (second .entry))) || same (take (points * width) (now (first .entry))) (take (points * width) (now (second .entry))) ⌝ }
+{
+    if first_alarm_waits(second, width) {
+        return true;
+    }
+    same_cells(first, second, points, width)
+}
+
+// One round of both tables, and whether it stops the rounds.
+fn turn(plan: &[u8], marks: &[u8; 256], horizon: u64, first: &mut [u32], second: &mut [u32]) -> bool
+    requires { ⌜ Ready (now plan) (now marks) horizon (now first) (now second) × AtMost 4000000000 (take (cellsOf (planOf (now plan))) (now first)) ⌝ }
+    ensures { λ r. ⌜ Turned (planOf (now (plan .entry))) (now (first .entry)) (now (second .entry)) r (now (first .exit)) (now (second .exit)) ⌝ }
+{
+    let n = points(plan);
+    let width = point_width(plan);
+    let end = cells(plan);
+    round(plan, marks, horizon, first, second);
+    let ended = stops(first, second, n, width);
+    copy_cells(second, first, end);
+    ended
+}
+
+// The answer of the round that stopped.
+fn ending(table: &[u32], width: usize, made: u32) -> Answer
+    requires { ⌜ width ≤ length (now table) ⌝ }
+    ensures { λ r. ⌜ outcomeOf r ≡ pick (anyAbove (take width (now (table .entry)))) (broken made) (kept made) ⌝ }
+{
+    if first_alarm_waits(table, width) {
+        return Answer::Broken(made);
+    }
+    Answer::Kept(made)
+}
+
+// Rounds from two tables with the same cells, up to the limit.
+fn rounds_to(
+    plan: &[u8],
+    marks: &[u8; 256],
+    horizon: u64,
+    first: &mut [u32],
+    second: &mut [u32],
+    limit: u32,
+) -> Answer
+    requires { ⌜ Ready (now plan) (now marks) horizon (now first) (now second) × RoomFrom (planOf (now plan)) (take (cellsOf (planOf (now plan))) (now first)) × (take (cellsOf (planOf (now plan))) (now second) ≡ take (cellsOf (planOf (now plan))) (now first)) ⌝ }
+    ensures { λ r. ⌜ Ran (planOf (now (plan .entry))) (now (first .entry)) (now (second .entry)) limit (outcomeOf r) (now (first .exit)) (now (second .exit)) ⌝ }
+{
+    let width = point_width(plan);
+    let mut made = 0;
+    while made < limit {
+        made += 1;
+        if turn(plan, marks, horizon, first, second) {
+            return ending(second, width, made);
+        }
+    }
+    Answer::Spent(limit)
+}
+
+// Rounds from the first table's cells, up to the limit; both tables then hold the last round's table.
+pub fn run(
+    plan: &[u8],
+    marks: &[u8; 256],
+    horizon: u64,
+    first: &mut [u32],
+    second: &mut [u32],
+    limit: u32,
+) -> Answer
+    requires { ⌜ Ready (now plan) (now marks) horizon (now first) (now second) × RoomFrom (planOf (now plan)) (take (cellsOf (planOf (now plan))) (now first)) ⌝ }
+    ensures { λ r. ⌜ Ran (planOf (now (plan .entry))) (now (first .entry)) (now (second .entry)) limit (outcomeOf r) (now (first .exit)) (now (second .exit)) ⌝ }
+{
+    let end = cells(plan);
+    copy_cells(first, second, end);
+    rounds_to(plan, marks, horizon, first, second, limit)
+}
+
+// The check of an accepted plan with tables that are long enough: rounds from zeros.
+fn checked(plan: &[u8], first: &mut [u32], second: &mut [u32], limit: u32) -> Answer
+    requires { ⌜ Accepted (now plan) × (cellsOf (planOf (now plan)) ≤ length (now first)) × (cellsOf (planOf (now plan)) ≤ length (now second)) ⌝ }
+    ensures { λ r. ⌜ outcomeOf r ≡ checkOutcome (now (plan .entry)) (now (first .entry)) (now (second .entry)) limit ⌝ }
+    ensures { λ _. ⌜ now (first .exit) ≡ checkTable (now (plan .entry)) (now (first .entry)) (now (second .entry)) limit (now (first .entry)) ⌝ }
+    ensures { λ _. ⌜ now (second .exit) ≡ checkTable (now (plan .entry)) (now (first .entry)) (now (second .entry)) limit (now (second .entry)) ⌝ }
+{
+    let end = cells(plan);
+    clear_cells(first, end);
+    let marks = plain_marks();
+    let horizon = horizon_of(plan);
+    run(plan, &marks, horizon, first, second, limit)
+}
+
+// Kept or broken with R, spent with the limit, or refused with the number of document 01's table; refused, the tables are untouched.
+pub fn check(plan: &[u8], first: &mut [u32], second: &mut [u32], limit: u32) -> Answer
+    ensures { λ r. ⌜ outcomeOf r ≡ checkOutcome (now (plan .entry)) (now (first .entry)) (now (second .entry)) limit ⌝ }
+    ensures { λ _. ⌜ now (first .exit) ≡ checkTable (now (plan .entry)) (now (first .entry)) (now (second .entry)) limit (now (first .entry)) ⌝ }
+    ensures { λ _. ⌜ now (second .exit) ≡ checkTable (now (plan .entry)) (now (first .entry)) (now (second .entry)) limit (now (second .entry)) ⌝ }
+    ensures { λ r. ⌜ (Accepted (now (plan .entry)) → cellsOf (planOf (now (plan .entry))) ≤ length (now (first .entry)) → cellsOf (planOf (now (plan .entry))) ≤ length (now (second .entry)) → enoughRounds (planOf (now (plan .entry))) ≤ limit → Demand3 (planOf (now (plan .entry))) (outcomeOf r) (now (first .exit))) ⌝ }
+{
+    let number = refusal(plan);
+    if number != 0 {
+        return Answer::Refused(number);
+    }
+    let end = cells(plan);
+    if first.len() < end {
+        return Answer::Refused(6);
+    }
+    if second.len() < end {
+        return Answer::Refused(6);
+    }
+    checked(plan, first, second, limit)
+}
