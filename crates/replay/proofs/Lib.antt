@@ -1,0 +1,3 @@
+pub mod ListingLaws
+mod JudgeLaws
+pub mod ListingC2

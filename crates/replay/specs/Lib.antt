@@ -1,0 +1,4 @@
+pub mod Listings
+pub mod Replaying
+pub mod Derives
+pub mod Judged

@@ -1,0 +1,13 @@
+// Replay of a listing.
+mod fields;
+mod judging;
+
+pub use judging::replay;
+pub use judging::sulgrach_replay;
+use rules::Rule;
+
+// A rule with its row, if both are in range.
+pub enum Ruled {
+    By(Rule),
+    Nothing,
+}
