@@ -1,7 +1,7 @@
 pub mod LabelLaws
 pub mod Places
 pub mod Ranges
+mod Greatest
 mod Marked
-mod Tests
 mod Weights
 pub mod Widths

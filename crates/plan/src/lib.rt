@@ -1,10 +1,9 @@
-// A plan read from its bytes, its labels, and its refusals 1 to 5.
+// A plan read from its bytes, and its labels.
 mod bounds;
 mod bytes;
 mod fields;
 mod label;
 mod marks;
-mod refusals;
 
 pub use bounds::horizon;
 pub use bounds::largest;
@@ -33,4 +32,3 @@ pub use label::digit;
 pub use label::is_plain;
 pub use label::join;
 pub use marks::plain_marks;
-pub use refusals::refusal;

@@ -14,7 +14,7 @@ use plan::links;
 use plan::plain_marks;
 use plan::points;
 use plan::propositions;
-use plan::refusal;
+use refusals::refusal;
 use rules::Edge;
 use rules::Line;
 use rules::Rule;

@@ -2,7 +2,7 @@
 use Prim.Native.Nat.{_-_}
 use native.Mathlib.Omega.{arith}
 use Rattle.plan.specs.Layout.{planOf, downAt}
-use Rattle.plan.proofs.Tests.{Highest, highest-none, highest-more, highest-all}
+use Rattle.plan.proofs.Greatest.{Highest, highest-none, highest-more, highest-all}
 use Rattle.plan.proofs.bounds.greatest_down.Statement.{statement}
 use Rattle.plan.proofs.bounds.greatest_down.Tie as tie
 

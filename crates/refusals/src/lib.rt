@@ -1,0 +1,4 @@
+// Refusals 1 to 5 of a plan.
+mod refusals;
+
+pub use refusals::refusal;
