@@ -14,14 +14,14 @@ use Rattle.plan.proofs.Ranges.{WellFormed}
 use Rattle.rules.specs.declared.Line.{Line}
 use Rattle.rules.specs.declared.Rule.{Rule}
 use Rattle.rules.specs.declared.Rule.the-variants.{Propagation, LowerCase, UpperCase, LetterRemoval, OwnLiteral, LiteralRemoval}
-use Rattle.rules.specs.Applying.{sameLine, givesLine}
+use Rattle.applying.specs.Applying.{sameLine, givesLine}
 use Rattle.rules.specs.Lines.{lineAt}
 use Rattle.rules.specs.Rules.{fires, result}
 use Rattle.rules.specs.Derivations.{InPlan}
 use Rattle.rules.proofs.Deriving.{fires-facts}
 use Rattle.rules.proofs.InRange.{InRange, result-range}
 use Rattle.rules.proofs.Cells.{digit-lt, cell-at, at-range}
-use Rattle.rules.proofs.SameLines.{same-equal, equal-same}
+use Rattle.applying.proofs.SameLines.{same-equal, equal-same}
 use Rattle.rules.proofs.Fill.{firstPoint, secondPoint, or-r}
 use Rattle.grounds.specs.Grounds.{holdsLine, Grounds}
 use Rattle.grounds.specs.Searching.{givenPoint, twoParents, Among, FirstAt, ByRule}

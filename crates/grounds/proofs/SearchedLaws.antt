@@ -15,7 +15,7 @@ use Rattle.plan.proofs.Ranges.{accepted-well-formed, accepted-bounded}
 use Rattle.plan.proofs.Widths.{shift}
 use Rattle.rules.specs.declared.Line.{Line}
 use Rattle.rules.specs.declared.Rule.{Rule}
-use Rattle.rules.specs.Applying.{InLabels}
+use Rattle.applying.specs.Applying.{InLabels}
 use Rattle.rules.specs.Derivations.{InPlan}
 use Rattle.rules.specs.Lines.{lineAt}
 use Rattle.rules.proofs.Cells.{at-range}

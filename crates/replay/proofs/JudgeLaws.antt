@@ -25,9 +25,9 @@ use Rattle.rules.specs.declared.Edge.the-variants.{PlanEdge, HorizonEdge}
 use Rattle.rules.specs.declared.Rule.{Rule}
 use Rattle.rules.specs.declared.Rule.the-variants.{Propagation, LowerCase, UpperCase, LetterRemoval, OwnLiteral, LiteralRemoval}
 use Rattle.rules.specs.Lines.{startingLine}
-use Rattle.rules.specs.Applying.{InLabels, givesLine}
+use Rattle.applying.specs.Applying.{InLabels, givesLine}
 use Rattle.rules.specs.Derivations.{InPlan}
-use Rattle.rules.proofs.ApplyLaws.{both, first-fails, rest-fails, told, told-not, told-plain}
+use Rattle.applying.proofs.ApplyLaws.{both, first-fails, rest-fails, told, told-not, told-plain}
 use Rattle.replay.specs.declared.Ruled.{Ruled}
 use Rattle.replay.specs.declared.Ruled.the-variants.{By, Nothing}
 use Rattle.replay.specs.Listings.{longAt, lineCount, headAt, headLine, headRule, rowOf, firstParent, secondParent, ruleOf, usesSecond, parentLine}

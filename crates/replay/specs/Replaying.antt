@@ -11,7 +11,7 @@ use Rattle.plan.specs.Layout.{planOf}
 use Rattle.plan.specs.Refusal.{refusal}
 use Rattle.rules.specs.declared.Line.{Line}
 use Rattle.rules.specs.declared.Rule.{Rule}
-use Rattle.rules.specs.Applying.{givesLine}
+use Rattle.applying.specs.Applying.{givesLine}
 use Rattle.replay.specs.Listings.{lineCount, headLine, headRule, rowOf, firstParent, secondParent, ruleOf, usesSecond, parentLine}
 
 -- 8: "under 2 bytes, m not 1..4,096, or length not 2 + 14m"

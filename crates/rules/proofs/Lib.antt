@@ -1,5 +1,3 @@
-pub mod ApplyLaws
-pub mod SameLines
 pub mod Raising
 pub mod Deriving
 pub mod InRange

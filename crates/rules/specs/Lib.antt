@@ -1,7 +1,6 @@
 pub mod Lines
 pub mod Rules
 pub mod Tables
-pub mod Applying
 pub mod Derivations
 pub mod Steps
 pub mod Shapes

@@ -1,13 +1,10 @@
 // Lines and the six rules.
-mod application;
-mod sets;
 mod shapes;
 
-pub use application::apply;
-pub use application::gives_line;
 pub use shapes::Propagator;
 pub use shapes::Remover;
 pub use shapes::cleared;
+pub use shapes::lesser;
 pub use shapes::propagated;
 pub use shapes::removed;
 pub use shapes::touches;
@@ -35,10 +32,4 @@ pub enum Rule {
     LetterRemoval(usize),
     OwnLiteral(usize),
     LiteralRemoval(usize),
-}
-
-// What applying a rule gives.
-pub enum Applied {
-    Gives(Line),
-    Nothing,
 }

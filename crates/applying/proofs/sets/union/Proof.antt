@@ -1,0 +1,12 @@
+-- `applying::sets::union` meets its contract.
+use mathlib.Core.Path.{refl}
+use Rattle.plan.specs.LinkSet.{union}
+use Rattle.applying.proofs.sets.union.Statement.{statement}
+use Rattle.applying.proofs.sets.union.Tie as tie
+
+returns : tie.Need-returns
+unfolding union
+returns c = refl
+
+pub union-spec : {M : Type 1} → statement M
+union-spec = tie.close (tie.spec returns)
