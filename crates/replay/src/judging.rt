@@ -113,7 +113,7 @@ fn rule_of(plan: &[u8], rule: usize, row: usize) -> Ruled
     Ruled::Nothing
 }
 
-fn uses_second(by: Rule) -> bool
+pub fn uses_second(by: Rule) -> bool
     ensures { λ r. ⌜ r ≡ listings.usesSecond by ⌝ }
 {
     match by {
@@ -309,14 +309,4 @@ pub fn replay(plan: &[u8], listing: &[u8]) -> u32
         return LAYOUT;
     }
     judge_listing(plan, listing)
-}
-
-// The C call: a buffer is a pointer and a length.
-#[no_mangle]
-pub extern "C" fn sulgrach_replay(plan: &[u8], listing: &[u8]) -> u32
-    ensures { λ r. ⌜ r ≡ replaying.replay (now (plan .entry)) (now (listing .entry)) ⌝ }
-    ensures { λ r. ⌜ (r ≡ 0 → ListingDerives (now (plan .entry)) (now (listing .entry))) ⌝ }
-    ensures { λ r. ⌜ (ListingDerives (now (plan .entry)) (now (listing .entry)) → r ≡ 0) ⌝ }
-{
-    replay(plan, listing)
 }

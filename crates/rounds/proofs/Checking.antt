@@ -1,17 +1,17 @@
 -- Laws of the check: what it answers and leaves where it refuses, and what rounds from zeros make of the tables.
 use mathlib.Core.Path.{_≡_, refl, sym, ap, ap₂, _∙_}
-use mathlib.Core.Bool.{true, false}
+use mathlib.Core.Bool.{Bool, true, false, cond, not}
 use mathlib.Core.List.{List, _++_}
 use mathlib.Core.Option.{none}
 use Prim.Native.Nat.{ℕ, _≤_, _<_}
 use native.Mathlib.Decide.{decLe}
 use native.Mathlib.Omega.{arith}
-use lib.Dec.{eqb}
+use lib.Dec.{ltb, eqb}
 use lib.ListN.{length, getD, take, drop, replicate, length-replicate, List·getD-append, List·getD-eq-default}
 use borrow.Author.Tests.{lt-ltb, le-ltb, eq-eqb, ne-eqb}
 use Rattle.plan.specs.Plan.{Plan, cells}
-use Rattle.plan.specs.Layout.{planOf}
-use Rattle.plan.specs.Refusal.{Accepted, refusal}
+use Rattle.plan.specs.Layout.{planOf, lengthFor}
+use Rattle.plan.specs.Refusal.{Accepted, every, sizesFit, observerFits, linkFits, edgeFits, refusalOf, refusal}
 use Rattle.plan.proofs.Ranges.{accepted-well-formed, accepted-bounded}
 use Rattle.filling.specs.Lent.{laidOver}
 use Rattle.rounds.specs.Rounds.{tableFrom, zeros, roundsTo}
@@ -46,11 +46,11 @@ demand-on P o A B e d = record {
 module _ (bs F G : List ℕ) (limit : ℕ) where
   -- ---- where nothing is refused
   module _ (accepted : Accepted bs) (f : cells (planOf bs) ≤ length F) (g : cells (planOf bs) ≤ length G) where
-    check-runs : checkOutcome bs F G limit ≡ runOutcome (planOf bs) (zeros (planOf bs)) limit
+    pub check-runs : checkOutcome bs F G limit ≡ runOutcome (planOf bs) (zeros (planOf bs)) limit
     unfolding checkOutcome
     check-runs = rw (eq-eqb (refusal bs) 0 accepted, le-ltb (length F) (cells (planOf bs)) f, le-ltb (length G) (cells (planOf bs)) g) refl
 
-    check-leaves : (L : List ℕ) → checkTable bs F G limit L ≡ runTable (planOf bs) (zeros (planOf bs)) limit ++ drop (cells (planOf bs)) L
+    pub check-leaves : (L : List ℕ) → checkTable bs F G limit L ≡ runTable (planOf bs) (zeros (planOf bs)) limit ++ drop (cells (planOf bs)) L
     unfolding checkTable
     check-leaves L = rw (eq-eqb (refusal bs) 0 accepted, le-ltb (length F) (cells (planOf bs)) f, le-ltb (length G) (cells (planOf bs)) g) refl
 
@@ -80,6 +80,22 @@ short-first P F G h = rw (lt-ltb (length F) (cells P) h) refl
 
 pub short-second : (P : Plan) (F G : List ℕ) → cells P ≤ length F → length G < cells P → tooShort P F G ≡ true
 short-second P F G f h = rw (le-ltb (length F) (cells P) f, lt-ltb (length G) (cells P) h) refl
+
+-- ---- the number of a refusal from 1 to 5
+at-most : (b : Bool) (k n : ℕ) → k ≤ 5 → n ≤ 5 → cond b k n ≤ 5
+at-most true k n h i = h
+at-most false k n h i = i
+
+pub refusal-few : (bs : List ℕ) → refusal bs ≤ 5
+unfolding refusal refusalOf
+refusal-few bs =
+    let P = planOf bs in
+    at-most (ltb (length bs) 4) 1 _ (omega arith)
+    (at-most (not (sizesFit P)) 2 _ (omega arith)
+    (at-most (not (eqb (length bs) (lengthFor P))) 1 _ (omega arith)
+    (at-most (not (every (observerFits P) (P .propositions))) 3 _ (omega arith)
+    (at-most (not (every (linkFits P) (P .links))) 4 _ (omega arith)
+    (at-most (not (every (edgeFits bs P) (P .edges))) 5 0 (omega arith) (omega arith))))))
 
 -- ---- rounds from zeros
 module _ (bs : List ℕ) (accepted : Accepted bs) where

@@ -35,13 +35,13 @@ module _ (P : Plan) (wf : WellFormed P) where
     pub low : Low P A
     pub high : (c : ℕ) → c < cells P → getD A c 0 ≤ P .horizon + P .largest
 
-  cell-line : (A : List ℕ) (c : ℕ) → c < cells P → 0 < getD A c 0 → Cell P A (lineAt P A c)
+  pub cell-line : (A : List ℕ) (c : ℕ) → c < cells P → 0 < getD A c 0 → Cell P A (lineAt P A c)
   cell-line A c h k = record { inside = at-range P A c h; above = k; holds = ap (λ (x : ℕ). getD A x 0) (cell-at P A c) }
 
   pub width-le : width P ≤ cells P
   width-le = omega (arith, mul-le-mul-right (width P) (le-trans (le-suc 1) (wf .two)))
 
-  first-point : (A : List ℕ) (c : ℕ) → c < width P → lineAt P A c .point ≡ 0
+  pub first-point : (A : List ℕ) (c : ℕ) → c < width P → lineAt P A c .point ≡ 0
   first-point A c h = div-div-eq-div-mul c (4 ^ P .propositions) (2 ^ P .links) ∙ div-eq-of-lt (rw (mul-comm (4 ^ P .propositions) (2 ^ P .links)) h)
 
   pub quiet-now : (B : List ℕ) → firstAlarmWaits P B ≡ false → Quiet P B

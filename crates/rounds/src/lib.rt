@@ -4,6 +4,7 @@ mod tables;
 
 pub use running::check;
 pub use running::run;
+pub use tables::clear_cells;
 pub use tables::copy_cells;
 pub use tables::first_alarm_waits;
 pub use tables::round;

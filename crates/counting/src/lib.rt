@@ -1,0 +1,4 @@
+// How many lines a listing has.
+mod raised;
+
+pub use raised::count_lines;

@@ -1,0 +1,3 @@
+mod EntryLaws
+pub mod NumberLaws
+mod RaisedLaws

@@ -1,0 +1,8 @@
+// The C interface, which include/sulgrach.h declares: a slice is a pointer and a length in elements.
+mod answers;
+mod calls;
+mod list;
+
+pub use calls::sulgrach_check;
+pub use calls::sulgrach_replay;
+pub use list::sulgrach_list;

@@ -1,0 +1,14 @@
+-- Plan c2's listing, by computation: its lines are those of document 01's bytes, and the 16-bit table has their numbers.
+use mathlib.Core.Path.{_≡_, refl}
+use mathlib.Core.List.{List, [], _∷_}
+use Prim.Native.Nat.{ℕ}
+use Rattle.plan.specs.Bytes.{byteAt, wordAt}
+use Rattle.plan.specs.Label.{joinDigit, join, plain}
+use Rattle.plan.specs.Layout.{endsAt, dataAt, edgeRow, upOf, downOf, greatest, mostAt, downAt, largestOf, planOf}
+use Rattle.rules.specs.Tables.{next}
+use Rattle.replay.proofs.ListingC2.{c2, lines2}
+use Rattle.lines.specs.Listed.{cellLines, raisedLines, linesTo, lowestRaised, listingLines, indexAt, indexTable}
+
+pub c2-lines : (listingLines (planOf c2) 2 ≡ lines2) × (indexTable (planOf c2) lines2 ≡ 3 ∷ 2 ∷ [])
+unfolding byteAt wordAt joinDigit join plain endsAt dataAt edgeRow upOf downOf greatest mostAt downAt largestOf planOf next cellLines raisedLines linesTo lowestRaised listingLines indexAt indexTable
+c2-lines = (refl, refl)

@@ -1,0 +1,2 @@
+mod Numbering
+pub mod Putting

@@ -1,0 +1,64 @@
+// A line's head and ground at their places in a listing.
+use crate::bytes::put_byte;
+use crate::bytes::put_word;
+use crate::numbers::row_number;
+use crate::numbers::rule_number;
+use crate::numbers::second_number;
+use rules::Line;
+use rules::Rule;
+ghost use mathlib.Core.Path.{_≡_};
+ghost use Prim.Native.Nat.{_+_, _*_, _≤_, _<_};
+ghost use lib.ListN.{length};
+ghost use lib.Seq.{sets};
+ghost use Rattle.plan.specs.Layout.{planOf};
+ghost use Rattle.plan.specs.Refusal.{Accepted};
+ghost use Rattle.rules.specs.Derivations.{InPlan};
+ghost use Rattle.replay.specs.Listings.{lineCount};
+ghost use Rattle.writing.specs.Writing.{headBytes, groundBytes, Fitting, Put};
+
+fn put_head(out: &mut [u8], at: usize, line: Line, rule: usize)
+    requires { ⌜ (at + 8 ≤ length (now out)) × Fitting line × (rule < 256) ⌝ }
+    ensures { λ _. ⌜ now (out .exit) ≡ sets (now (out .entry)) at (headBytes line rule) ⌝ }
+    ensures { λ _. ⌜ length (now (out .exit)) ≡ length (now (out .entry)) ⌝ }
+{
+    put_byte(out, at, line.point);
+    put_byte(out, at + 1, line.set);
+    put_byte(out, at + 2, line.label);
+    put_byte(out, at + 3, rule);
+    put_word(out, at + 4, (line.wait / 65536) as usize);
+    put_word(out, at + 6, (line.wait % 65536) as usize);
+}
+
+fn put_ground(out: &mut [u8], at: usize, row: usize, first: usize, second: usize)
+    requires { ⌜ (at + 6 ≤ length (now out)) × (row < 65536) × (first < 65536) × (second < 65536) ⌝ }
+    ensures { λ _. ⌜ now (out .exit) ≡ sets (now (out .entry)) at (groundBytes row first second) ⌝ }
+    ensures { λ _. ⌜ length (now (out .exit)) ≡ length (now (out .entry)) ⌝ }
+{
+    put_word(out, at, row);
+    put_word(out, at + 2, first);
+    put_word(out, at + 4, second);
+}
+
+// Line i of a listing of m lines, by a rule from the parents with these numbers.
+pub fn put_line(
+    plan: &[u8],
+    out: &mut [u8],
+    m: usize,
+    i: usize,
+    line: Line,
+    by: Rule,
+    first: usize,
+    second: usize,
+)
+    requires { ⌜ Accepted (now plan) × InPlan (planOf (now plan)) by × Fitting line × (lineCount (now out) ≡ m) × (length (now out) ≡ 2 + 14 * m) × (m ≤ 4096) × (i < m) × (first < 65536) × (second < 65536) ⌝ }
+    ensures { λ _. ⌜ Put (planOf (now (plan .entry))) m i line by first second (now (out .entry)) (now (out .exit)) ⌝ }
+{
+    put_head(out, 2 + 8 * i, line, rule_number(by));
+    put_ground(
+        out,
+        2 + 8 * m + 6 * i,
+        row_number(plan, by),
+        first,
+        second_number(by, second),
+    );
+}
