@@ -1,0 +1,96 @@
+-- Laws of the text as a whole: its lines, when it can be put, and what the report ensures once it is.
+use mathlib.Core.Path.{_≡_, refl, sym, ap, ap₂, subst⁻¹, _∙_}
+use mathlib.Core.Bool.{true, false, true≢false}
+use mathlib.Core.Logic.{_⊎_, inl, inr}
+use mathlib.Core.List.{List, _++_, append-nil}
+use Prim.Native.Nat.{ℕ, _*_, _≤_, _<_}
+use native.Mathlib.Nat.{zero-add}
+use native.Mathlib.Omega.{arith}
+use lib.ListN.{length, take, drop, length-take}
+use lib.Seq.{take-all, take-append-seam}
+use borrow.Author.Tests.{lt-ltb, le-ltb}
+use Rattle.plan.specs.Plan.{Plan, width, cells}
+use Rattle.plan.specs.Layout.{planOf}
+use Rattle.plan.specs.Refusal.{Accepted}
+use Rattle.rounds.specs.Outcomes.{Outcome, refused, checkOutcome, checkTable}
+use Rattle.report.specs.Text.{joined, firstLine, pointLine, isRefused, textOf}
+use Rattle.report.specs.Printed.{servingLimit, programOutcome, programTable, printed, overlaid}
+use Rattle.report.specs.Buffer.{Room, Put, Printable}
+use Rattle.report.proofs.Puts.{sets-overlaid, put-append, room-second}
+use Rattle.report.proofs.Lengths.{refuses-or-runs, run-long, printed-length}
+
+-- ---- the lines of a text
+pub text-refused : (o : Outcome) (P : Plan) (T : List ℕ) → isRefused o ≡ true → textOf o P T ≡ firstLine o
+unfolding textOf
+text-refused o P T e = rw e (append-nil (firstLine o))
+
+-- the code's numbers w and n are the cells of a point and the points
+module _ (bs : List ℕ) (o : Outcome) (T : List ℕ) (e : isRefused o ≡ false) (w n : ℕ) (ew : w ≡ width (planOf bs)) (en : n ≡ planOf bs .points) where
+  text-lines : textOf o (planOf bs) T ≡ firstLine o ++ joined (pointLine T w) n
+  unfolding textOf
+  text-lines = rw (e, ew, en) refl
+
+  pub lines-asked : {next : ℕ} {out after : List ℕ} → Printable bs o T → Put (firstLine o) 0 out next after → (n * w ≤ length T) × Room next (joined (pointLine T w) n)
+  lines-asked p q = (rw (ew, en) (p .accepted e .1), room-second _ _ (rw text-lines at (p .room)) q)
+
+  pub lines-put : {next end : ℕ} {out middle after : List ℕ} → Put (firstLine o) 0 out next middle → Put (joined (pointLine T w) n) next middle end after → Put (textOf o (planOf bs) T) 0 out end after
+  lines-put p q = rw text-lines (put-append p q)
+
+-- ---- the whole
+module _ (bs F G : List ℕ) where
+  -- what the report ensures
+  abbrev Reported : ℕ → List ℕ → List ℕ → List ℕ → List ℕ → Type 0
+  Reported r out after F′ G′ =
+      (r ≡ length (printed bs F G))
+      × ((after ≡ overlaid (printed bs F G) out)
+      × ((F′ ≡ programTable bs F G F) × (G′ ≡ programTable bs F G G)))
+
+  whole : {r : ℕ} {out after F′ G′ : List ℕ} → Put (printed bs F G) 0 out r after → F′ ≡ programTable bs F G F → G′ ≡ programTable bs F G G → Reported r out after F′ G′
+  whole {r} {out} {after} p f g = (p .next-is ∙ zero-add _, (p .after-is ∙ sets-overlaid (printed bs F G) out, (f, g)))
+
+  -- ---- over 800 bytes
+  module _ (h : 800 < length bs) where
+    long-table : (L : List ℕ) → programTable bs F G L ≡ L
+    unfolding programTable
+    long-table L = rw (lt-ltb 800 (length bs) h) refl
+
+    long-text : printed bs F G ≡ firstLine (refused 1)
+    unfolding printed programOutcome
+    long-text = rw (lt-ltb 800 (length bs) h) (text-refused (refused 1) (planOf bs) (programTable bs F G F) refl)
+
+    pub long-reported : {r : ℕ} {out after : List ℕ} → Put (firstLine (refused 1)) 0 out r after → Reported r out after F G
+    long-reported p = whole (rw long-text p) (sym (long-table F)) (sym (long-table G))
+
+  -- ---- at most 800: the check answered o and left F′ and G′
+  module _ (h : length bs ≤ 800) (o : Outcome) (F′ G′ : List ℕ) (eo : o ≡ checkOutcome bs F G servingLimit) (ef : F′ ≡ checkTable bs F G servingLimit F) (eg : G′ ≡ checkTable bs F G servingLimit G) where
+    short-table : (L : List ℕ) → programTable bs F G L ≡ checkTable bs F G servingLimit L
+    unfolding programTable
+    short-table L = rw (le-ltb 800 (length bs) h) refl
+
+    short-text : printed bs F G ≡ textOf o (planOf bs) F′
+    unfolding printed programOutcome
+    short-text = rw (le-ltb 800 (length bs) h, short-table F, eo, ef) refl
+
+    accepted-then : isRefused o ≡ false → Accepted bs × (cells (planOf bs) ≤ length F′)
+    accepted-then e = go (refuses-or-runs bs F G servingLimit)
+      where
+        go : ((k : ℕ) × (checkOutcome bs F G servingLimit ≡ refused k) × (k ≤ 6)) ⊎ (Accepted bs × (cells (planOf bs) ≤ length F) × (cells (planOf bs) ≤ length G)) → Accepted bs × (cells (planOf bs) ≤ length F′)
+        go (inl (k, q, j)) = absurd (true≢false (sym (ap isRefused (eo ∙ q)) ∙ e))
+        go (inr (a, f, g)) = (a, subst⁻¹ (λ (L : List ℕ). cells (planOf bs) ≤ length L) ef (run-long bs F G servingLimit a f g))
+
+    pub short-printable : Printable bs o F′
+    short-printable = record { accepted = accepted-then; room = record { room = rw (← short-text) (omega (arith, printed-length bs F G)) } }
+
+    pub short-reported : {r : ℕ} {out after : List ℕ} → Put (textOf o (planOf bs) F′) 0 out r after → Reported r out after F′ G′
+    short-reported p = whole (rw short-text p) (ef ∙ sym (short-table F)) (eg ∙ sym (short-table G))
+
+-- ---- read back: an output of 196,608 bytes holds the whole text
+overlaid-whole : (text out : List ℕ) → length text ≤ length out → take (length text) (overlaid text out) ≡ text
+unfolding overlaid
+overlaid-whole text out h = rw (take-all (length out) text h, take-append-seam text (drop (length text) out)) refl
+
+pub read-back : (bs F G : List ℕ) (r : ℕ) (out after : List ℕ) → 196608 ≤ length out → r ≡ length (printed bs F G) → after ≡ overlaid (printed bs F G) out → ((r ≤ length after) × (r ≡ length (take r after))) × (take r after ≡ printed bs F G)
+read-back bs F G r out after h er ea =
+    let e : take r after ≡ printed bs F G = ap₂ take er ea ∙ overlaid-whole (printed bs F G) out (omega (arith, printed-length bs F G)) in
+    let l : r ≡ length (take r after) = er ∙ sym (ap length e) in
+    ((omega (arith, l, length-take r after), l), e)

@@ -1,0 +1,28 @@
+-- The byte is put where it fits, and the output is as it was where it does not.
+use mathlib.Core.Logic.{⊎-elim}
+use mathlib.Core.List.{[], _∷_}
+use Prim.Native.Nat.{_+_}
+use denote.Ref.{now}
+use borrow.Author.Needs.{needs}
+use Rattle.report.specs.Buffer.{Put}
+use Rattle.report.proofs.Puts.{put-in, put-out}
+use Rattle.report.proofs.putting.put_byte.Statement.{statement}
+use Rattle.report.proofs.putting.put_byte.Tie as tie
+
+slice-write-out : tie.Need-slice-write-out
+slice-write-out c = search needs
+
+add-result : tie.Need-add-result
+add-result c = search needs
+
+put : (c : tie.Joined1) → let s = c .before .args in Put (s .byte ∷ []) (s .at) (now (s .out)) (s .at + 1) (c .if1 .out)
+put c = ⊎-elim (λ w. put-in (w .1)) (λ w. put-out (w .0 .left) (w .1)) (c .if1 .came)
+
+same-length : tie.Need-same-length
+same-length c = put c .length-is
+
+returns : tie.Need-returns
+returns c = put c
+
+pub put-byte-spec : {M : Type 1} → statement M
+put-byte-spec = tie.close (tie.spec slice-write-out add-result same-length returns)

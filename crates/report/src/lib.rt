@@ -1,0 +1,6 @@
+// The text that the program prints, put into a lent buffer.
+mod lines;
+mod putting;
+mod reporting;
+
+pub use reporting::report;

@@ -1,0 +1,88 @@
+// The lines of the text.
+use crate::putting::put_byte;
+use crate::putting::put_bytes;
+use crate::putting::put_decimal;
+use rounds::Answer;
+ghost use mathlib.Core.Path.{_≡_};
+ghost use mathlib.Core.List.{_∷_};
+ghost use Prim.Native.Nat.{_+_, _*_, _≤_};
+ghost use lib.ListN.{length};
+ghost use Rattle.rounds.specs.Outcomes.{outcomeOf};
+ghost use Rattle.report.specs.Decimal.{decimal};
+ghost use Rattle.report.specs.Text.{joined, numberedLine, firstLine, cellText, pointLine, isRefused};
+ghost use Rattle.report.specs.Buffer.{Room, Put};
+
+// A word with the space after it, a number, and a newline.
+fn put_numbered(out: &mut [u8], at: usize, word: &[u8], n: u32) -> usize
+    requires { ⌜ Room at (numberedLine (now word) n) ⌝ }
+    ensures { λ r. ⌜ Put (numberedLine (now (word .entry)) n) at (now (out .entry)) r (now (out .exit)) ⌝ }
+{
+    let number = put_bytes(out, at, word);
+    let end = put_decimal(out, number, n as usize);
+    put_byte(out, end, b'\n')
+}
+
+pub fn put_answer(out: &mut [u8], at: usize, answer: Answer) -> usize
+    requires { ⌜ Room at (firstLine (outcomeOf answer)) ⌝ }
+    ensures { λ r. ⌜ Put (firstLine (outcomeOf answer)) at (now (out .entry)) r (now (out .exit)) ⌝ }
+{
+    match answer {
+        Answer::Kept(r) => put_numbered(out, at, b"kept ", r),
+        Answer::Broken(r) => put_numbered(out, at, b"broken ", r),
+        Answer::Spent(r) => put_numbered(out, at, b"spent ", r),
+        Answer::Refused(n) => put_numbered(out, at, b"refused ", n),
+    }
+}
+
+pub fn is_refused(answer: Answer) -> bool
+    ensures { λ r. ⌜ r ≡ isRefused (outcomeOf answer) ⌝ }
+{
+    match answer {
+        Answer::Kept(_) => false,
+        Answer::Broken(_) => false,
+        Answer::Spent(_) => false,
+        Answer::Refused(_) => true,
+    }
+}
+
+// One space, and a cell.
+fn put_cell(out: &mut [u8], at: usize, cell: u32) -> usize
+    requires { ⌜ Room at (32 ∷ decimal cell) ⌝ }
+    ensures { λ r. ⌜ Put (32 ∷ decimal cell) at (now (out .entry)) r (now (out .exit)) ⌝ }
+{
+    let next = put_byte(out, at, b' ');
+    put_decimal(out, next, cell as usize)
+}
+
+// The cells of the point whose first is at start.
+fn put_cells(out: &mut [u8], at: usize, table: &[u32], start: usize, width: usize) -> usize
+    requires { ⌜ (start + width ≤ length (now table)) × Room at (joined (cellText (now table) start) width) ⌝ }
+    ensures { λ r. ⌜ Put (joined (cellText (now (table .entry)) start) width) at (now (out .entry)) r (now (out .exit)) ⌝ }
+{
+    let mut next = at;
+    for c in 0..width {
+        next = put_cell(out, next, table[start + c]);
+    }
+    next
+}
+
+// A point's number, its cells, and a newline.
+fn put_point(out: &mut [u8], at: usize, table: &[u32], width: usize, x: usize) -> usize
+    requires { ⌜ (x * width + width ≤ length (now table)) × Room at (pointLine (now table) width x) ⌝ }
+    ensures { λ r. ⌜ Put (pointLine (now (table .entry)) width x) at (now (out .entry)) r (now (out .exit)) ⌝ }
+{
+    let cells = put_decimal(out, at, x);
+    let end = put_cells(out, cells, table, x * width, width);
+    put_byte(out, end, b'\n')
+}
+
+pub fn put_points(out: &mut [u8], at: usize, table: &[u32], width: usize, points: usize) -> usize
+    requires { ⌜ (points * width ≤ length (now table)) × Room at (joined (pointLine (now table) width) points) ⌝ }
+    ensures { λ r. ⌜ Put (joined (pointLine (now (table .entry)) width) points) at (now (out .entry)) r (now (out .exit)) ⌝ }
+{
+    let mut next = at;
+    for x in 0..points {
+        next = put_point(out, next, table, width, x);
+    }
+    next
+}
