@@ -1,0 +1,192 @@
+//! Times the check over the C interface, beside other checkers, on fixed
+//! plans. Not part of the gate.
+//!
+//! All checkers take turns in one run, so that what else the machine does
+//! falls on all of them alike; the shortest time of each counts.
+
+use std::fs;
+use std::path::Path;
+use std::time::{Duration, Instant};
+use sulgrach_tests::generate::{sample, slow_cycle, typical, Class};
+use sulgrach_tests::library;
+use sulgrach_tests::port;
+use sulgrach_tests::second::{self, Verdict, EVERY_PLAN};
+
+/// Code and rounds of a check; the tables are left as the check leaves them.
+type Check = fn(plan: &[u8], first: &mut [u32], second: &mut [u32], limit: u32) -> (u32, u32);
+
+/// A checker, and the most rounds that it is given time for.
+struct Checker {
+    name: &'static str,
+    check: Check,
+    most_rounds: u32,
+}
+
+/// The checkers, the library first: the others are measured against it.
+const CHECKERS: &[Checker] = &[
+    Checker { name: "library", check: check_library, most_rounds: EVERY_PLAN },
+    Checker { name: "port", check: port::check, most_rounds: EVERY_PLAN },
+    Checker { name: "second", check: check_second, most_rounds: 20_000 },
+];
+
+fn check_library(plan: &[u8], first: &mut [u32], second: &mut [u32], limit: u32) -> (u32, u32) {
+    let mut rounds = [0];
+    let code = library::check(plan, first, second, limit, &mut rounds);
+    (code, rounds[0])
+}
+
+fn check_second(plan: &[u8], first: &mut [u32], second: &mut [u32], limit: u32) -> (u32, u32) {
+    match second::check(plan, first, second, limit) {
+        Ok(answer) => (code(answer.verdict), answer.rounds),
+        Err(refusal) => (library::refused(refusal), 0),
+    }
+}
+
+fn code(verdict: Verdict) -> u32 {
+    match verdict {
+        Verdict::Kept => library::KEPT,
+        Verdict::Broken => library::BROKEN,
+        Verdict::Spent => library::SPENT,
+    }
+}
+
+/// A plan of the benchmark.
+struct Case {
+    name: String,
+    plan: Vec<u8>,
+    limit: u32,
+}
+
+impl Case {
+    fn new(name: impl Into<String>, plan: Vec<u8>, limit: u32) -> Self {
+        Case { name: name.into(), plan, limit }
+    }
+}
+
+fn main() {
+    run(
+        "typical: n 12, p 2, k 2, e 40",
+        (0..8).map(|seed| Case::new(format!("seed {seed}"), typical(seed), EVERY_PLAN)),
+    );
+    // Seeds whose tables are three quarters full after five rounds.
+    let dense =
+        [1, 3, 18, 37].map(|seed| Case::new(format!("seed {seed}"), sample(Class::Dense, seed).plan, 5));
+    run("dense: near 16,384 cells, at most 5 rounds", dense.into_iter());
+    let slow = [
+        Case::new("5 points", slow_cycle(5, 2, 10_000, false), EVERY_PLAN),
+        Case::new("32 points", slow_cycle(32, 2, 100_000, false), EVERY_PLAN),
+        Case::new("6 points, a link and a proposition", slow_cycle(6, 3, 50_000, true), EVERY_PLAN),
+        Case::new("32 points, 16 a turn", slow_cycle(32, 16, 1_000_000, false), EVERY_PLAN),
+    ];
+    run("slow cycles", slow.into_iter());
+    run(
+        "the ten bench plans",
+        (1..=10).map(|number| Case::new(format!("c{number}"), bench_plan(number), EVERY_PLAN)),
+    );
+}
+
+fn bench_plan(number: u32) -> Vec<u8> {
+    let path = Path::new(env!("CARGO_MANIFEST_DIR")).join(format!("../plans/c{number}.plan"));
+    fs::read(&path).unwrap_or_else(|error| panic!("{}: {error}", path.display()))
+}
+
+fn run(class: &str, cases: impl Iterator<Item = Case>) {
+    println!("{class}");
+    let mut ratios = vec![Vec::new(); CHECKERS.len()];
+    for case in cases {
+        let cells = second::read(&case.plan).expect("an accepted plan").cells();
+        let measures = measure_all(&case, &mut vec![0; cells], &mut vec![0; cells]);
+        report(&case, cells, &measures);
+        for (ratios, measure) in ratios.iter_mut().zip(&measures) {
+            ratios.push(per_round(measure) / per_round(&measures[0]));
+        }
+    }
+    for (checker, ratios) in CHECKERS.iter().zip(&ratios).skip(1) {
+        println!(
+            "  {}: {:.2} times the library's time, geometric mean",
+            checker.name,
+            geometric_mean(ratios)
+        );
+    }
+    println!();
+}
+
+fn geometric_mean(ratios: &[f64]) -> f64 {
+    (ratios.iter().map(|ratio| ratio.ln()).sum::<f64>() / ratios.len() as f64).exp()
+}
+
+/// What one checker took for one plan.
+struct Measure {
+    code: u32,
+    rounds: u32,
+    limit: u32,
+    shortest: Duration,
+}
+
+/// Lets all checkers take turns, each turn long enough to be timed.
+fn measure_all(case: &Case, first: &mut [u32], second: &mut [u32]) -> Vec<Measure> {
+    const TURNS: usize = 5;
+    let mut repeats = Vec::new();
+    let mut measures = Vec::new();
+    for checker in CHECKERS {
+        let limit = case.limit.min(checker.most_rounds);
+        let started = Instant::now();
+        let (code, rounds) = (checker.check)(&case.plan, first, second, limit);
+        let shortest = started.elapsed();
+        repeats.push(
+            (Duration::from_millis(10).as_nanos() / shortest.as_nanos().max(1)).clamp(1, 100_000) as u32
+        );
+        measures.push(Measure { code, rounds, limit, shortest });
+    }
+    for _ in 0..TURNS {
+        for ((checker, measure), &repeats) in CHECKERS.iter().zip(&mut measures).zip(&repeats) {
+            let started = Instant::now();
+            for _ in 0..repeats {
+                (checker.check)(&case.plan, first, second, measure.limit);
+            }
+            measure.shortest = measure.shortest.min(started.elapsed() / repeats);
+        }
+    }
+    measures
+}
+
+fn report(case: &Case, cells: usize, measures: &[Measure]) {
+    let library = &measures[0];
+    let answer = ["kept", "broken", "spent"].get(library.code as usize).copied().unwrap_or("refused");
+    println!("  {}: {cells} cells, {answer} {}", case.name, library.rounds);
+    for (checker, measure) in CHECKERS.iter().zip(measures) {
+        // A checker with a smaller limit is compared round by round.
+        let shortened = measure.limit < library.rounds;
+        if !shortened {
+            assert_eq!(
+                (measure.code, measure.rounds),
+                (library.code, library.rounds),
+                "{} on {}",
+                checker.name,
+                case.name
+            );
+        }
+        println!(
+            "    {:8} {:>12} a check, {:>12} a round, {:.2} times the library's{}",
+            checker.name,
+            time(measure.shortest.as_secs_f64()),
+            time(per_round(measure)),
+            per_round(measure) / per_round(library),
+            if shortened { format!(" (only {} rounds)", measure.rounds) } else { String::new() },
+        );
+    }
+}
+
+fn per_round(measure: &Measure) -> f64 {
+    measure.shortest.as_secs_f64() / f64::from(measure.rounds.max(1))
+}
+
+/// A time in the unit that suits it.
+fn time(seconds: f64) -> String {
+    match seconds {
+        seconds if seconds < 1e-6 => format!("{:.1} ns", seconds * 1e9),
+        seconds if seconds < 1e-3 => format!("{:.2} µs", seconds * 1e6),
+        seconds if seconds < 1.0 => format!("{:.2} ms", seconds * 1e3),
+        seconds => format!("{seconds:.2} s"),
+    }
+}

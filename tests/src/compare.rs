@@ -1,0 +1,194 @@
+//! One call of the library beside the same call of the second checker, both
+//! on the same lent memory, which starts dirty and is compared to its end.
+
+use crate::generate::{hex, Random};
+use crate::library;
+use crate::second::{self, Answer, Line, Listed, Refusal, Verdict};
+use std::fmt::Display;
+
+/// The lengths of the memory lent to a call.
+#[derive(Clone, Copy, Debug)]
+pub struct Lengths {
+    pub first: usize,
+    pub second: usize,
+    pub index: usize,
+    pub output: usize,
+}
+
+impl Lengths {
+    /// Enough for this many cells and bytes of output, often more.
+    pub fn ample(random: &mut Random, cells: usize, output: usize) -> Self {
+        let mut more = |length: usize| length + random.pick(&[0, 1, 7, 60]);
+        Lengths { first: more(cells), second: more(cells), index: more(cells), output: more(output) }
+    }
+}
+
+/// The output that serves every listing.
+pub const LONGEST_LISTING: usize = 2 + 14 * second::MOST_LINES;
+
+fn dirty_words(random: &mut Random, length: usize) -> Vec<u32> {
+    (0..length).map(|_| random.number() as u32).collect()
+}
+
+fn dirty_halves(random: &mut Random, length: usize) -> Vec<u16> {
+    (0..length).map(|_| random.number() as u16).collect()
+}
+
+fn dirty_bytes(random: &mut Random, length: usize) -> Vec<u8> {
+    (0..length).map(|_| random.number() as u8).collect()
+}
+
+/// The C interface's code of an answer.
+fn code(verdict: Verdict) -> u32 {
+    match verdict {
+        Verdict::Kept => library::KEPT,
+        Verdict::Broken => library::BROKEN,
+        Verdict::Spent => library::SPENT,
+    }
+}
+
+/// Says where two pieces of lent memory first part.
+fn same<T: PartialEq + Display>(of: &str, library: &[T], second: &[T], case: &dyn Display) {
+    assert_eq!(library.len(), second.len());
+    if let Some(place) = (0..library.len()).find(|&place| library[place] != second[place]) {
+        panic!("{of}, entry {place}: library {}, second checker {}; {case}", library[place], second[place]);
+    }
+}
+
+/// Checks a plan both ways and compares the answer and all lent memory.
+pub fn check(random: &mut Random, plan: &[u8], lengths: Lengths, limit: u32, sample: &dyn Display) {
+    let case = format!("check, limit {limit}, {lengths:?}, {sample}");
+    let [first, second] = [lengths.first, lengths.second].map(|length| dirty_words(random, length));
+    let count = random.below(4);
+    let rounds = dirty_words(random, count);
+
+    let (mut first_expected, mut second_expected, mut rounds_expected) =
+        (first.clone(), second.clone(), rounds.clone());
+    let expected = second::check(plan, &mut first_expected, &mut second_expected, limit);
+    if let (Ok(answer), Some(count)) = (&expected, rounds_expected.first_mut()) {
+        *count = answer.rounds;
+    }
+
+    let (mut first, mut second, mut rounds) = (first, second, rounds);
+    let found = library::check(plan, &mut first, &mut second, limit, &mut rounds);
+
+    assert_eq!(found, check_code(&expected), "code of the library and of the second checker; {case}");
+    same("count of rounds", &rounds, &rounds_expected, &case);
+    same("first table", &first, &first_expected, &case);
+    same("second table", &second, &second_expected, &case);
+}
+
+fn check_code(expected: &Result<Answer, Refusal>) -> u32 {
+    match expected {
+        Ok(answer) => code(answer.verdict),
+        Err(refusal) => library::refused(*refusal),
+    }
+}
+
+/// Lists a plan both ways, compares the answer and all lent memory, and has
+/// both replays accept what is handed over: the listing of a broken plan.
+pub fn list(
+    random: &mut Random,
+    plan: &[u8],
+    lengths: Lengths,
+    limit: u32,
+    sample: &dyn Display,
+) -> Option<Vec<u8>> {
+    let case = format!("listing, limit {limit}, {lengths:?}, {sample}");
+    let [first, second] = [lengths.first, lengths.second].map(|length| dirty_words(random, length));
+    let index = dirty_halves(random, lengths.index);
+    let output = dirty_bytes(random, lengths.output);
+    let count = random.below(4);
+    let numbers = dirty_words(random, count);
+
+    let (mut first_expected, mut second_expected, mut index_expected) =
+        (first.clone(), second.clone(), index.clone());
+    let expected = second::list(
+        plan,
+        &mut first_expected,
+        &mut second_expected,
+        limit,
+        &mut index_expected,
+        lengths.output,
+    );
+    let numbers_expected = listing_numbers(&expected, &numbers);
+
+    let (mut first, mut second, mut index, before) = (first, second, index, output.clone());
+    let (mut output, mut numbers) = (output, numbers);
+    let found = library::list(plan, &mut first, &mut second, limit, &mut index, &mut output, &mut numbers);
+
+    assert_eq!(found, listing_code(&expected), "code of the library and of the second checker; {case}");
+    same("numbers", &numbers, &numbers_expected, &case);
+    same("first table", &first, &first_expected, &case);
+    same("second table", &second, &second_expected, &case);
+    same("16-bit table", &index, &index_expected, &case);
+
+    let lines = broken_lines(&expected).unwrap_or(&[]);
+    let length = if lines.is_empty() { 0 } else { second::listing_bytes(lines.len()) };
+    same("output past the listing", &output[length..], &before[length..], &case);
+    if length == 0 {
+        return None;
+    }
+    output.truncate(length);
+    same_lines(&output, lines, &case);
+    replays_accept(plan, &output, &case);
+    Some(output)
+}
+
+fn broken_lines(listed: &Result<Listed, Refusal>) -> Option<&[Line]> {
+    let listed = listed.as_ref().ok()?;
+    (listed.answer.verdict == Verdict::Broken).then_some(&listed.lines)
+}
+
+fn listing_code(expected: &Result<Listed, Refusal>) -> u32 {
+    match expected {
+        Ok(listed) => code(listed.answer.verdict),
+        Err(refusal) => library::refused(*refusal),
+    }
+}
+
+/// The numbers as they are to be after the call: rounds, then length.
+fn listing_numbers(expected: &Result<Listed, Refusal>, before: &[u32]) -> Vec<u32> {
+    let mut numbers = before.to_vec();
+    if let (Ok(listed), Some(rounds)) = (expected, numbers.first_mut()) {
+        *rounds = listed.answer.rounds;
+    }
+    if let (Some(lines), Some(length)) = (broken_lines(expected), numbers.get_mut(1)) {
+        *length = second::listing_bytes(lines.len()) as u32;
+    }
+    numbers
+}
+
+/// The point, set, label and wait of each head are those of the lines; the
+/// rule is free.
+fn same_lines(listing: &[u8], lines: &[Line], case: &dyn Display) {
+    let m = u16::from_be_bytes([listing[0], listing[1]]);
+    assert_eq!(usize::from(m), lines.len(), "lines of the library and of the second checker; {case}");
+    for (i, (head, line)) in listing[2..].chunks(8).zip(lines).enumerate() {
+        let wait = (line.wait as u32).to_be_bytes();
+        let named = [line.point as u8, line.set, line.label];
+        assert!(
+            head[..3] == named && head[4..] == wait,
+            "head of line {i} is {}, to be {line:?}; {case}",
+            hex(head)
+        );
+    }
+}
+
+fn replays_accept(plan: &[u8], listing: &[u8], case: &dyn Display) {
+    assert_eq!(second::replay(plan, listing), 0, "the second replay of listing {}; {case}", hex(listing));
+    assert_eq!(library::replay(plan, listing), 0, "the library's replay of listing {}; {case}", hex(listing));
+}
+
+/// Replays a listing both ways; returns what both answer.
+pub fn replay(plan: &[u8], listing: &[u8], sample: &dyn Display) -> Refusal {
+    let expected = second::replay(plan, listing);
+    let found = library::replay(plan, listing);
+    assert_eq!(
+        found,
+        expected,
+        "replay of the library and of the second checker; listing {}; {sample}",
+        hex(listing)
+    );
+    expected
+}

@@ -1,0 +1,557 @@
+//! A seeded generator of plans. A class and a seed always make the same plan.
+
+pub mod faults;
+pub mod listings;
+
+use crate::second::{self, Edge, Link, Verdict, MOST_CELLS};
+use std::fmt;
+
+// ---------------------------------------------------------------- random
+
+/// SplitMix64: small, fast, and the same everywhere.
+pub struct Random {
+    state: u64,
+}
+
+impl Random {
+    pub fn new(seed: u64) -> Self {
+        Random { state: seed }
+    }
+
+    pub fn number(&mut self) -> u64 {
+        self.state = self.state.wrapping_add(0x9e37_79b9_7f4a_7c15);
+        let mut mixed = self.state;
+        mixed = (mixed ^ (mixed >> 30)).wrapping_mul(0xbf58_476d_1ce4_e5b9);
+        mixed = (mixed ^ (mixed >> 27)).wrapping_mul(0x94d0_49bb_1331_11eb);
+        mixed ^ (mixed >> 31)
+    }
+
+    /// A number below `bound`.
+    pub fn below(&mut self, bound: usize) -> usize {
+        (self.number() % bound as u64) as usize
+    }
+
+    /// A number from `least` to `most`, both among them.
+    pub fn between(&mut self, least: i64, most: i64) -> i64 {
+        least + self.below((most - least + 1) as usize) as i64
+    }
+
+    pub fn chance(&mut self, percent: usize) -> bool {
+        self.below(100) < percent
+    }
+
+    pub fn pick<T: Copy>(&mut self, choices: &[T]) -> T {
+        choices[self.below(choices.len())]
+    }
+
+    pub fn shuffle<T>(&mut self, items: &mut [T]) {
+        for last in (1..items.len()).rev() {
+            items.swap(last, self.below(last + 1));
+        }
+    }
+}
+
+// ----------------------------------------------------------------- plans
+
+/// The kinds of accepted plans.
+#[derive(Clone, Copy, Debug, PartialEq, Eq)]
+pub enum Class {
+    /// Two to four points and tiny weights, where bounds meet exactly.
+    Small,
+    /// Links and propositions, with one or two parts near the point where
+    /// they break the plan, so that single rules decide.
+    Decisive,
+    /// Links and propositions together, and much that waits for them.
+    Mixed,
+    /// Weights and durations at their bounds, many points, many edges.
+    Extreme,
+    /// Loops that gain little a turn: many rounds.
+    Slow,
+    /// Near 16,384 cells.
+    Dense,
+}
+
+pub const CLASSES: [Class; 6] =
+    [Class::Small, Class::Decisive, Class::Mixed, Class::Extreme, Class::Slow, Class::Dense];
+
+/// One generated plan; shown, it says how to make it again.
+#[derive(Clone)]
+pub struct Sample {
+    pub class: Class,
+    pub seed: u64,
+    pub plan: Vec<u8>,
+}
+
+impl fmt::Display for Sample {
+    fn fmt(&self, to: &mut fmt::Formatter) -> fmt::Result {
+        write!(to, "{:?} plan of seed {}, bytes {}", self.class, self.seed, hex(&self.plan))
+    }
+}
+
+/// Bytes as two digits each, for a failure's message.
+pub fn hex(bytes: &[u8]) -> String {
+    bytes.iter().map(|byte| format!("{byte:02x}")).collect()
+}
+
+/// The plan of a class and a seed.
+pub fn sample(class: Class, seed: u64) -> Sample {
+    // Each class has numbers of its own.
+    let mut random = Random::new(seed.wrapping_mul(CLASSES.len() as u64) + class as u64);
+    let mut draft = match class {
+        Class::Small => small(&mut random),
+        Class::Decisive => decisive(&mut random),
+        Class::Mixed => mixed(&mut random),
+        Class::Extreme => extreme(&mut random),
+        Class::Slow => slow(&mut random),
+        Class::Dense => dense(&mut random),
+    };
+    random.shuffle(&mut draft.edges);
+    Sample { class, seed, plan: draft.bytes() }
+}
+
+/// So many plans of a class, with seeds counted from `seed`.
+pub fn samples(class: Class, seed: u64, count: u64) -> impl Iterator<Item = Sample> {
+    println!("{class:?} plans of {count} seeds from {seed}");
+    (seed..seed + count).map(move |seed| sample(class, seed))
+}
+
+/// A plan being put together.
+#[derive(Clone, Debug)]
+pub struct Draft {
+    pub points: usize,
+    pub observing: Vec<usize>,
+    pub links: Vec<Link>,
+    pub edges: Vec<Edge>,
+}
+
+/// The most edges that a plan may have.
+const MOST_EDGES: usize = 128;
+
+impl Draft {
+    /// The plan's file: sizes, observing points, then the two arrays.
+    pub fn bytes(&self) -> Vec<u8> {
+        let sizes = [self.points, self.observing.len(), self.links.len(), self.edges.len()];
+        let mut bytes: Vec<u8> = sizes.iter().chain(&self.observing).map(|&number| number as u8).collect();
+        bytes.extend(self.links.iter().flat_map(|link| [link.activation as u8, link.end as u8]));
+        bytes.extend(self.edges.iter().flat_map(|edge| [edge.from as u8, edge.to as u8]));
+        for link in &self.links {
+            bytes.extend((link.least as u16).to_be_bytes());
+            bytes.extend((link.most as u16).to_be_bytes());
+        }
+        for edge in &self.edges {
+            bytes.extend((edge.weight as i16).to_be_bytes());
+            bytes.extend([edge.label, 0]);
+        }
+        bytes
+    }
+
+    /// Adds an edge if the plan has room for it.
+    fn edge(&mut self, from: usize, to: usize, weight: i64, label: u8) {
+        if self.edges.len() < MOST_EDGES && from != to {
+            self.edges.push(Edge { from, to, weight, label });
+        }
+    }
+
+    /// `later` comes at least `gap` after `earlier`.
+    fn after(&mut self, later: usize, earlier: usize, gap: i64, label: u8) {
+        self.edge(later, earlier, -gap, label);
+    }
+
+    /// `later` comes at most `gap` after `earlier`.
+    fn within(&mut self, later: usize, earlier: usize, gap: i64, label: u8) {
+        self.edge(earlier, later, gap, label);
+    }
+
+    fn any_point(&self, random: &mut Random) -> usize {
+        random.below(self.points)
+    }
+
+    fn other_point(&self, random: &mut Random, point: usize) -> usize {
+        (point + 1 + random.below(self.points - 1)) % self.points
+    }
+
+    /// Neither Z nor the point given, if there are any others.
+    fn later_point(&self, random: &mut Random, point: usize) -> usize {
+        let others: Vec<usize> = (1..self.points).filter(|other| *other != point).collect();
+        if others.is_empty() {
+            0
+        } else {
+            random.pick(&others)
+        }
+    }
+
+    /// A plain label; `percent` is the chance of each digit not to be 0.
+    fn any_label(&self, random: &mut Random, percent: usize) -> u8 {
+        (0..self.observing.len()).fold(0, |label, j| {
+            if random.chance(percent) {
+                label | yes_or_no(random, j)
+            } else {
+                label
+            }
+        })
+    }
+
+    /// A plain label with this digit of proposition j; `percent` is the chance
+    /// of each other digit not to be 0.
+    fn label_with(&self, random: &mut Random, j: usize, digit_j: u8, percent: usize) -> u8 {
+        second::clear(self.any_label(random, percent), j) | digit_j << (2 * j)
+    }
+}
+
+fn yes_or_no(random: &mut Random, proposition: usize) -> u8 {
+    random.pick(&[1, 2]) << (2 * proposition)
+}
+
+/// Points, observing points and link ends, no edges. Durations start at up to
+/// `longest` and vary by as much.
+fn frame(random: &mut Random, n: usize, p: usize, k: usize, longest: i64) -> Draft {
+    let mut others: Vec<usize> = (1..n).collect();
+    random.shuffle(&mut others);
+    let mut draft =
+        Draft { points: n, observing: others[..p].to_vec(), links: Vec::new(), edges: Vec::new() };
+    for &end in &others[p..p + k] {
+        let activation = if random.chance(35) { 0 } else { draft.other_point(random, end) };
+        let least = random.between(1, longest);
+        let most = least + random.between(1, longest);
+        draft.links.push(Link { activation, end, least, most });
+    }
+    draft
+}
+
+// ----------------------------------------------- parts that make rules act
+
+/// Y is to come shortly before a link's end, which nobody chooses: Y waits
+/// under the link (rules 3 and 1), then without it (rule 4), and so the end
+/// and the activation wait too (rules 1 and 2).
+fn before_an_end(random: &mut Random, draft: &mut Draft, extra: usize) {
+    let Some(link) = any_link(random, draft) else { return };
+    let y = draft.later_point(random, link.end);
+    let least = random.between(0, 3);
+    let most = random.between(least, link.most + 1);
+    let label = draft.any_label(random, extra);
+    draft.within(link.end, y, most, label);
+    let label = draft.any_label(random, extra);
+    draft.after(link.end, y, least, label);
+    if random.chance(60) {
+        let label = draft.any_label(random, extra);
+        draft.within(link.activation, 0, random.between(0, 12), label);
+    }
+}
+
+/// Y is late if a fact is one way and early if it is the other, with the fact
+/// learnt between: rule 6.
+fn before_the_fact(random: &mut Random, draft: &mut Draft, extra: usize) {
+    let Some(j) = any_proposition(random, draft) else { return };
+    let y = draft.later_point(random, draft.observing[j]);
+    let way = random.pick(&[1, 2]);
+    let late = random.between(3, 15);
+    let label = draft.label_with(random, j, way, extra);
+    draft.after(y, 0, late, label);
+    let label = draft.label_with(random, j, 3 - way, extra);
+    draft.within(y, 0, late - random.between(-1, 3), label);
+    let seen = late + random.between(-5, 4);
+    let label = draft.label_with(random, j, 0, extra);
+    draft.after(draft.observing[j], 0, seen.max(1), label);
+}
+
+/// An observing point's own time hangs on its fact: rule 5.
+fn own_fact(random: &mut Random, draft: &mut Draft, extra: usize) {
+    let Some(j) = any_proposition(random, draft) else { return };
+    let way = random.pick(&[1, 2]);
+    let earlier = if random.chance(60) { 0 } else { draft.other_point(random, draft.observing[j]) };
+    let gap = random.between(1, 12);
+    let label = draft.label_with(random, j, way, extra);
+    draft.after(draft.observing[j], earlier, gap, label);
+    let label = draft.label_with(random, j, 3 - way, extra);
+    draft.within(draft.observing[j], earlier, gap + random.between(-3, 2), label);
+}
+
+/// An observing point waits for a link's end: the rules for links and those
+/// for propositions feed each other.
+fn seen_after_an_end(random: &mut Random, draft: &mut Draft, extra: usize) {
+    let (Some(link), Some(j)) = (any_link(random, draft), any_proposition(random, draft)) else { return };
+    let label = draft.any_label(random, extra);
+    draft.after(draft.observing[j], link.end, random.between(0, 6), label);
+    let y = draft.later_point(random, draft.observing[j]);
+    let way = random.pick(&[1, 2]);
+    let label = draft.label_with(random, j, way, extra);
+    draft.after(y, link.end, random.between(0, 8), label);
+    let label = draft.label_with(random, j, 3 - way, extra);
+    draft.within(y, link.activation, random.between(0, 12), label);
+}
+
+/// The parts; `extra` is the chance of further digits in their labels.
+type Part = fn(&mut Random, &mut Draft, usize);
+const PARTS: [Part; 4] = [before_an_end, before_the_fact, own_fact, seen_after_an_end];
+
+fn any_link(random: &mut Random, draft: &Draft) -> Option<Link> {
+    (!draft.links.is_empty()).then(|| draft.links[random.below(draft.links.len())])
+}
+
+fn any_proposition(random: &mut Random, draft: &Draft) -> Option<usize> {
+    (!draft.observing.is_empty()).then(|| random.below(draft.observing.len()))
+}
+
+/// An edge of no special meaning. The room is what upper bounds leave.
+fn any_edge(random: &mut Random, draft: &mut Draft, longest: i64, room: i64) {
+    let from = draft.any_point(random);
+    let to = draft.other_point(random, from);
+    let label = draft.any_label(random, 30);
+    match random.below(10) {
+        0..=2 => draft.after(from.max(1), 0, random.between(1, longest), label),
+        3..=4 => draft.after(from, to, random.between(0, longest / 2), label),
+        5..=6 => draft.within(to.max(1), 0, random.between(room / 2, room), label),
+        _ => draft.within(from.max(1), to, random.between(room / 4, room), label),
+    }
+}
+
+/// Takes away, one by one, edges and activations that make Z wait within so
+/// many rounds. What is left is kept, or broken later and for better reasons.
+/// There must be three points at least.
+fn loosen(random: &mut Random, draft: &mut Draft, rounds: u32) {
+    while let Some((rule, row)) = why_broken(random, draft, rounds) {
+        let edges = draft.edges.len();
+        if rule == 2 {
+            let end = draft.links[row].end;
+            draft.links[row].activation = draft.later_point(random, end);
+        } else if row < edges {
+            draft.edges.swap_remove(row);
+        } else if edges > 0 {
+            // Past the horizon: some edges wait for each other.
+            draft.edges.swap_remove(random.below(edges));
+        } else {
+            return;
+        }
+    }
+}
+
+/// A rule and row that make Z wait within so many rounds, if any do.
+fn why_broken(random: &mut Random, draft: &Draft, rounds: u32) -> Option<(u8, usize)> {
+    let plan = second::read(&draft.bytes()).expect("a draft is an accepted plan");
+    let mut before = Vec::new();
+    let answer = second::run(&plan, rounds, |table, _| before = table.to_vec());
+    if answer.verdict != Verdict::Broken {
+        return None;
+    }
+    let mut reasons = Vec::new();
+    second::each_given(&plan, &second::lines_held(&plan, &before), |ground, line| {
+        if line.point == 0 {
+            reasons.push((ground.rule, ground.row));
+        }
+    });
+    Some(random.pick(&reasons))
+}
+
+// --------------------------------------------------------------- classes
+
+fn small(random: &mut Random) -> Draft {
+    let (n, p, k) = random.pick(&[
+        (2, 0, 0),
+        (2, 0, 1),
+        (2, 1, 0),
+        (3, 1, 0),
+        (3, 0, 2),
+        (3, 1, 1),
+        (3, 1, 1),
+        (4, 1, 1),
+        (4, 1, 2),
+        (4, 2, 1),
+    ]);
+    let mut draft = frame(random, n, p, k, 2);
+    for _ in 0..random.below(7) {
+        let from = draft.any_point(random);
+        let to = draft.other_point(random, from);
+        let label = draft.any_label(random, 40);
+        draft.edge(from, to, random.between(-4, 6), label);
+    }
+    draft
+}
+
+fn decisive(random: &mut Random) -> Draft {
+    let (p, k) = random.pick(&[(1, 1), (1, 1), (2, 1), (1, 2), (2, 2)]);
+    let n = p + k + random.between(2, 3) as usize;
+    let mut draft = frame(random, n, p, k, 6);
+    for _ in 0..random.between(1, 2) {
+        random.pick(&PARTS)(random, &mut draft, 5);
+    }
+    for _ in 0..random.below(4) {
+        any_edge(random, &mut draft, 4, 60);
+    }
+    let rounds = random.pick(&[0, 2, 4, 100]);
+    loosen(random, &mut draft, rounds);
+    draft
+}
+
+fn mixed(random: &mut Random) -> Draft {
+    let (p, k) = random.pick(&[
+        (1, 1),
+        (1, 1),
+        (1, 2),
+        (2, 1),
+        (2, 2),
+        (2, 2),
+        (1, 3),
+        (3, 1),
+        (2, 3),
+        (3, 2),
+        (0, 2),
+        (2, 0),
+    ]);
+    let n = p + k + 1 + random.below(4);
+    let mut draft = frame(random, n, p, k, 8);
+    for _ in 0..random.between(1, 4) {
+        random.pick(&PARTS)(random, &mut draft, 20);
+    }
+    let room = random.pick(&[8, 20, 40, 80]);
+    for _ in 0..random.below(2 * n) {
+        any_edge(random, &mut draft, 10, room);
+    }
+    let rounds = random.pick(&[1, 4, 10, 200, 200]);
+    loosen(random, &mut draft, rounds);
+    draft
+}
+
+fn extreme(random: &mut Random) -> Draft {
+    let p = random.below(3);
+    let k = random.below(4);
+    let n = random.between(8, 32) as usize;
+    let mut draft = frame(random, n, p, k, 1800);
+    for link in &mut draft.links {
+        (link.least, link.most) = random.pick(&[(1, 2), (1, 3600), (3599, 3600), (link.least, link.most)]);
+    }
+    // In half of the plans every gap counts from Z, so that few are broken by
+    // a loop.
+    let from_z = random.chance(50);
+    for _ in 0..random.pick(&[3, 20, 60, MOST_EDGES, MOST_EDGES]) {
+        let from = draft.any_point(random);
+        let to = draft.other_point(random, from);
+        let label = draft.any_label(random, 60);
+        let gap = random.pick(&[1, 3599, 3600]);
+        match random.below(3) {
+            0 if from_z => draft.after(from, 0, gap, label),
+            0 => draft.after(from, to, gap, label),
+            1 => draft.within(from, to, random.pick(&[0, 3599, 3600]), label),
+            _ => draft.within(from, to, random.between(0, 3600), label),
+        }
+    }
+    let rounds = random.pick(&[0, 2, 4, 20]);
+    loosen(random, &mut draft, rounds);
+    draft
+}
+
+/// Loops that gain a second or so a turn, in a plan with a far horizon and a
+/// few edges more.
+fn slow(random: &mut Random) -> Draft {
+    let (p, k) = random.pick(&[(0, 0), (1, 1), (1, 1), (1, 0), (0, 1), (2, 1)]);
+    let n = p + k + random.between(3, 5) as usize;
+    let mut draft = frame(random, n, p, k, 8);
+    // One long gap sets the horizon.
+    let far = random.pick(&[20, 100, 500, 3600]);
+    draft.after(random.between(1, n as i64 - 1) as usize, 0, far, 0);
+    match random.below(3) {
+        1 if k > 0 => link_loop(random, &mut draft),
+        2 if p > 0 => fact_loop(random, &mut draft, far),
+        _ => edge_loop(random, &mut draft),
+    }
+    for _ in 0..random.below(4) {
+        any_edge(random, &mut draft, 5, 3600);
+    }
+    loosen(random, &mut draft, 20);
+    draft
+}
+
+/// Points that wait for each other, one second more a turn.
+fn edge_loop(random: &mut Random, draft: &mut Draft) {
+    let mut around: Vec<usize> = (1..draft.points).collect();
+    random.shuffle(&mut around);
+    around.truncate(random.between(2, around.len() as i64) as usize);
+    let label = draft.any_label(random, 20);
+    let mut total = 0;
+    for pair in around.windows(2) {
+        let weight = random.between(-2, 2);
+        draft.edge(pair[0], pair[1], weight, label);
+        total += weight;
+    }
+    draft.edge(around[around.len() - 1], around[0], -1 - total, label);
+}
+
+/// A point that is to come before a link's end: each turn takes rules 1 to 4.
+fn link_loop(random: &mut Random, draft: &mut Draft) {
+    let link = draft.links[0];
+    let y = draft.other_point(random, link.end);
+    let gap = random.between(1, 2);
+    draft.after(link.end, y, gap, 0);
+    draft.within(link.end, y, gap.max(link.most - link.least), 0);
+}
+
+/// Two points, each later than the other under one answer to a fact: each
+/// turn takes rule 6 twice, and the turns end when the fact is known.
+fn fact_loop(random: &mut Random, draft: &mut Draft, far: i64) {
+    let mut others: Vec<usize> = (1..draft.points).filter(|point| *point != draft.observing[0]).collect();
+    random.shuffle(&mut others);
+    draft.after(draft.observing[0], 0, far, 0);
+    draft.after(others[0], others[1], 1, 1);
+    draft.after(others[1], others[0], 0, 2);
+}
+
+fn dense(random: &mut Random) -> Draft {
+    let (n, p, k) =
+        random.pick(&[(8, 4, 3), (16, 3, 4), (16, 4, 2), (32, 4, 1), (32, 3, 3), (31, 3, 3), (15, 3, 4)]);
+    assert!(n << k << (2 * p) <= MOST_CELLS);
+    let mut draft = frame(random, n, p, k, 20);
+    for j in 0..p {
+        let point = draft.observing[j];
+        draft.after(point, 0, random.between(20, 60), yes_or_no(random, (j + 1) % p));
+    }
+    // Few edges for plans that the rounds can finish, many for full tables.
+    let (parts, edges) = random.pick(&[(0, 2), (1, 5), (4, 40), (8, 100)]);
+    for _ in 0..parts {
+        before_an_end(random, &mut draft, 20);
+        seen_after_an_end(random, &mut draft, 20);
+    }
+    for _ in 0..edges {
+        any_edge(random, &mut draft, 30, 900);
+    }
+    let rounds = random.pick(&[1, 2, 4]);
+    loosen(random, &mut draft, rounds);
+    draft
+}
+
+// ------------------------------------------------ plans of the benchmark
+
+/// A plan of a typical size: 12 points, 2 propositions, 2 links, 40 edges.
+/// Even seeds make plans that are kept or broken late.
+pub fn typical(seed: u64) -> Vec<u8> {
+    let rounds = [500, 8][seed as usize % 2];
+    let mut random = Random::new(seed);
+    let mut draft = frame(&mut random, 12, 2, 2, 8);
+    while draft.edges.len() < 40 {
+        if random.chance(10) {
+            random.pick(&PARTS)(&mut random, &mut draft, 20);
+        }
+        any_edge(&mut random, &mut draft, 10, 80);
+        draft.edges.truncate(40);
+        loosen(&mut random, &mut draft, rounds);
+    }
+    draft.bytes()
+}
+
+/// A plan of about so many rounds: `turn` points wait for each other, a second
+/// more a turn, until the horizon breaks the plan. With `both`, a link and a
+/// proposition go along.
+pub fn slow_cycle(points: usize, turn: usize, rounds: i64, both: bool) -> Vec<u8> {
+    assert!(turn + 2 < points, "three points are apart from the turn: Z and the last two");
+    let mut draft = Draft { points, observing: vec![], links: vec![], edges: vec![] };
+    for point in 1..turn {
+        draft.after(point, point + 1, 0, 0);
+    }
+    draft.after(turn, 1, 1, 0);
+    // The longest gap sets the horizon, and each second up to it takes a turn.
+    draft.after(points - 1, 0, rounds / turn as i64 / points as i64, 0);
+    if both {
+        draft.observing.push(points - 1);
+        draft.links.push(Link { activation: 0, end: points - 2, least: 1, most: 2 });
+        draft.after(1, 0, 1, 1);
+    }
+    draft.bytes()
+}

@@ -1,0 +1,706 @@
+//! The second checker: document 01 read literally.
+//!
+//! It was made apart from the library and shares nothing with it. Each part
+//! is meant to be held beside the sentence of the document that it quotes;
+//! where the two part, the document is right. Nothing here is made to be fast.
+
+/// "1,946,435,585 rounds serve every plan."
+pub const EVERY_PLAN: u32 = 1_946_435_585;
+
+/// The most cells that a plan may have.
+pub const MOST_CELLS: usize = 16_384;
+
+/// The most lines that a listing may have.
+pub const MOST_LINES: usize = 4_096;
+
+/// The most bytes that the program reads as a plan.
+pub const MOST_BYTES: usize = 800;
+
+/// The number of a refusal, 1 to 11.
+pub type Refusal = u32;
+
+// ---------------------------------------------------------------- labels
+
+/// "A label has one base-4 digit for each proposition, digit j worth 4^j:
+/// 0 absent, 1 yes, 2 no, 3 unknown."
+pub fn digit(label: u8, proposition: usize) -> u8 {
+    label >> (2 * proposition) & 3
+}
+
+/// The label with one digit made 0.
+pub fn clear(label: u8, proposition: usize) -> u8 {
+    label & !(3 << (2 * proposition))
+}
+
+/// "Joining two labels joins digits."
+pub fn join(one: u8, other: u8) -> u8 {
+    (0..4).fold(0, |joined, j| joined | join_digits(digit(one, j), digit(other, j)) << (2 * j))
+}
+
+/// "0 yields to the other, equal digits stay, any other pair gives 3."
+fn join_digits(one: u8, other: u8) -> u8 {
+    if one == 0 {
+        other
+    } else if other == 0 || one == other {
+        one
+    } else {
+        3
+    }
+}
+
+/// "A label is plain if no digit is 3."
+pub fn plain(label: u8) -> bool {
+    (0..4).all(|j| digit(label, j) != 3)
+}
+
+// ------------------------------------------------------------- link sets
+
+/// "A link set is a number with bit i for link i."
+pub fn has_link(set: u8, link: usize) -> bool {
+    set >> link & 1 == 1
+}
+
+fn with_link(set: u8, link: usize) -> u8 {
+    set | 1 << link
+}
+
+fn without_link(set: u8, link: usize) -> u8 {
+    set & !(1 << link)
+}
+
+// -------------------------------------------------------------- the plan
+
+/// "Links 0 to k−1 run from an activation A to an end C and take a duration of
+/// least s and most y that nobody chooses."
+#[derive(Clone, Copy, Debug, PartialEq, Eq)]
+pub struct Link {
+    pub activation: usize,
+    pub end: usize,
+    pub least: i64,
+    pub most: i64,
+}
+
+/// "An edge from X to Y with weight u (whole seconds) says Y − X ≤ u under a
+/// label."
+#[derive(Clone, Copy, Debug, PartialEq, Eq)]
+pub struct Edge {
+    pub from: usize,
+    pub to: usize,
+    pub weight: i64,
+    pub label: u8,
+}
+
+/// An accepted plan.
+#[derive(Clone, Debug, PartialEq, Eq)]
+pub struct Plan {
+    pub points: usize,
+    /// The observing point of each proposition.
+    pub observing: Vec<usize>,
+    pub links: Vec<Link>,
+    pub edges: Vec<Edge>,
+    pub horizon: i64,
+}
+
+impl Plan {
+    /// The link sets of one point: 2^k.
+    pub fn sets(&self) -> usize {
+        1 << self.links.len()
+    }
+
+    /// The labels of one point and set: 4^p.
+    pub fn labels(&self) -> usize {
+        1 << (2 * self.observing.len())
+    }
+
+    /// "n × 2^k × 4^p (the cells)"
+    pub fn cells(&self) -> usize {
+        self.points * self.sets() * self.labels()
+    }
+
+    /// "Cell (X × 2^k + set) × 4^p + label"
+    pub fn cell(&self, line: &Line) -> usize {
+        (line.point * self.sets() + usize::from(line.set)) * self.labels() + usize::from(line.label)
+    }
+
+    /// The line that waits this long in a cell.
+    fn line_in(&self, cell: usize, wait: u32) -> Line {
+        Line {
+            point: cell / self.labels() / self.sets(),
+            set: (cell / self.labels() % self.sets()) as u8,
+            label: (cell % self.labels()) as u8,
+            wait: i64::from(wait),
+        }
+    }
+
+    /// The edge of a row of rule 1: "an edge number, or e + X for the horizon
+    /// edge to X, X from 1 to n − 1 (row e is out of range)".
+    pub fn edge(&self, row: usize) -> Option<Edge> {
+        let e = self.edges.len();
+        if row < e {
+            Some(self.edges[row])
+        } else if e < row && row < e + self.points {
+            Some(Edge { from: 0, to: row - e, weight: self.horizon, label: 0 })
+        } else {
+            None
+        }
+    }
+}
+
+/// Reads a plan. "Order: under 4 bytes, 2, length, then 3 to 7"; 6 and 7 are
+/// not about the plan.
+pub fn read(bytes: &[u8]) -> Result<Plan, Refusal> {
+    if bytes.len() < 4 {
+        return Err(1);
+    }
+    let [n, p, k, e] = [0, 1, 2, 3].map(|place| usize::from(bytes[place]));
+    if !sizes_in_bounds(n, p, k, e) {
+        return Err(2);
+    }
+    if bytes.len() != 4 + p + 6 * (k + e) {
+        return Err(1);
+    }
+
+    let observing: Vec<usize> = bytes[4..4 + p].iter().map(|&point| usize::from(point)).collect();
+    if !observing_points_right(n, &observing) {
+        return Err(3);
+    }
+
+    let ends = &bytes[4 + p..][..2 * (k + e)];
+    let rows = &bytes[4 + p + 2 * (k + e)..];
+    let links: Vec<Link> = (0..k).map(|row| link_of(&ends[2 * row..], &rows[4 * row..])).collect();
+    if !links_right(n, &observing, &links) {
+        return Err(4);
+    }
+
+    let edges: Vec<Edge> = (k..k + e).map(|row| edge_of(&ends[2 * row..], &rows[4 * row..])).collect();
+    let last_bytes_zero = (k..k + e).all(|row| rows[4 * row + 3] == 0);
+    if !last_bytes_zero || !edges.iter().all(|edge| edge_right(n, p, edge)) {
+        return Err(5);
+    }
+
+    let horizon = horizon(n, &links, &edges);
+    Ok(Plan { points: n, observing, links, edges, horizon })
+}
+
+/// "n 2 to 32, p and k 0 to 4, e 0 to 128, n × 2^k × 4^p at most 16,384."
+fn sizes_in_bounds(n: usize, p: usize, k: usize, e: usize) -> bool {
+    (2..=32).contains(&n) && p <= 4 && k <= 4 && e <= 128 && n * (1 << k) * (1 << (2 * p)) <= MOST_CELLS
+}
+
+/// Refusal 3: "observing point 0, ≥ n, or used twice".
+fn observing_points_right(n: usize, observing: &[usize]) -> bool {
+    observing.iter().enumerate().all(|(j, &point)| {
+        let used_before = observing[..j].contains(&point);
+        point != 0 && point < n && !used_before
+    })
+}
+
+/// Refusal 4: "link: end ≥ n, A = C, C = 0, C observing, C used twice, s or y
+/// wrong", where "0 < s < y ≤ 3,600". Either end may be the one that is ≥ n.
+fn links_right(n: usize, observing: &[usize], links: &[Link]) -> bool {
+    links.iter().enumerate().all(|(i, link)| {
+        let used_before = links[..i].iter().any(|before| before.end == link.end);
+        link.activation < n
+            && link.end < n
+            && link.activation != link.end
+            && link.end != 0
+            && !observing.contains(&link.end)
+            && !used_before
+            && 0 < link.least
+            && link.least < link.most
+            && link.most <= 3600
+    })
+}
+
+/// Refusal 5, but for the last byte: "edge: end ≥ n, equal ends, u out of
+/// bounds, label not plain or with a digit at p or above".
+fn edge_right(n: usize, p: usize, edge: &Edge) -> bool {
+    edge.from < n
+        && edge.to < n
+        && edge.from != edge.to
+        && (-3600..=3600).contains(&edge.weight)
+        && plain(edge.label)
+        && (p..4).all(|j| digit(edge.label, j) == 0)
+}
+
+/// "First array: from, to (one byte each). Second array: a link has s and y
+/// (16 bits each)", high byte first.
+fn link_of(ends: &[u8], row: &[u8]) -> Link {
+    Link {
+        activation: usize::from(ends[0]),
+        end: usize::from(ends[1]),
+        least: i64::from(u16::from_be_bytes([row[0], row[1]])),
+        most: i64::from(u16::from_be_bytes([row[2], row[3]])),
+    }
+}
+
+/// "An edge has u (16 bits, two's complement), label (one byte), a zero byte."
+fn edge_of(ends: &[u8], row: &[u8]) -> Edge {
+    Edge {
+        from: usize::from(ends[0]),
+        to: usize::from(ends[1]),
+        weight: i64::from(i16::from_be_bytes([row[0], row[1]])),
+        label: row[2],
+    }
+}
+
+/// "M is the largest of all y and all −u with u < 0, or 0 if there are none.
+/// The horizon is n × M."
+fn horizon(n: usize, links: &[Link], edges: &[Edge]) -> i64 {
+    let longest = links.iter().map(|link| link.most);
+    let negative = edges.iter().filter(|edge| edge.weight < 0).map(|edge| -edge.weight);
+    n as i64 * longest.chain(negative).max().unwrap_or(0)
+}
+
+// --------------------------------------------------- lines and six rules
+
+/// "A line says: point X waits w seconds after Z, under a link set and a
+/// label."
+#[derive(Clone, Copy, Debug, PartialEq, Eq)]
+pub struct Line {
+    pub point: usize,
+    pub set: u8,
+    pub label: u8,
+    pub wait: i64,
+}
+
+/// "Starting lines: wait 0 at every point, Z too, with set 0 and label 0."
+pub fn starting_lines(plan: &Plan) -> Vec<Line> {
+    (0..plan.points).map(|point| Line { point, set: 0, label: 0, wait: 0 }).collect()
+}
+
+/// "1. Y waits w, label b plain; edge X to Y of weight u, label a; join of a
+/// and b plain; w − u > 0: X waits w − u, same set, joined label."
+fn rule_1(edge: &Edge, y: &Line) -> Option<Line> {
+    let joined = join(edge.label, y.label);
+    let wait = y.wait - edge.weight;
+    let applies = y.point == edge.to && plain(y.label) && plain(joined) && wait > 0;
+    applies.then_some(Line { point: edge.from, set: y.set, label: joined, wait })
+}
+
+/// "2. C waits w, its link not in the set, label plain, w − s > 0: A waits
+/// w − s, same set and label."
+fn rule_2(number: usize, link: &Link, c: &Line) -> Option<Line> {
+    let wait = c.wait - link.least;
+    let applies = c.point == link.end && !has_link(c.set, number) && plain(c.label) && wait > 0;
+    applies.then_some(Line { point: link.activation, set: c.set, label: c.label, wait })
+}
+
+/// "3. A waits w, label plain: C waits w + y, set with the link added, same
+/// label." The set may already have the link.
+fn rule_3(number: usize, link: &Link, a: &Line) -> Option<Line> {
+    let applies = a.point == link.activation && plain(a.label);
+    applies.then_some(Line {
+        point: link.end,
+        set: with_link(a.set, number),
+        label: a.label,
+        wait: a.wait + link.most,
+    })
+}
+
+/// "4. Y waits w, the link in its set; A waits a, the link not in A's set: Y
+/// waits min(w, a + s), union of the sets without the link, joined label."
+fn rule_4(number: usize, link: &Link, y: &Line, a: &Line) -> Option<Line> {
+    let applies = has_link(y.set, number) && a.point == link.activation && !has_link(a.set, number);
+    applies.then(|| Line {
+        point: y.point,
+        set: without_link(y.set | a.set, number),
+        label: join(y.label, a.label),
+        wait: y.wait.min(a.wait + link.least),
+    })
+}
+
+/// "5. The observing point of a proposition waits w > 0 with its digit not 0:
+/// the same with that digit 0."
+fn rule_5(proposition: usize, observing: usize, seen: &Line) -> Option<Line> {
+    let applies = seen.point == observing && seen.wait > 0 && digit(seen.label, proposition) != 0;
+    applies.then_some(Line { label: clear(seen.label, proposition), ..*seen })
+}
+
+/// "6. Y waits w with the digit of proposition j not 0; j's observing point
+/// waits q > 0 with that digit 0: Y waits min(w, q), union of the sets, join
+/// of both labels after clearing Y's digit j."
+fn rule_6(proposition: usize, observing: usize, y: &Line, seen: &Line) -> Option<Line> {
+    let applies = digit(y.label, proposition) != 0
+        && seen.point == observing
+        && seen.wait > 0
+        && digit(seen.label, proposition) == 0;
+    applies.then(|| Line {
+        point: y.point,
+        set: y.set | seen.set,
+        label: join(clear(y.label, proposition), seen.label),
+        wait: y.wait.min(seen.wait),
+    })
+}
+
+/// What a line rests on: a rule, its row, and its parents as places in a list
+/// of lines. The second parent is 0 where the rule uses none.
+#[derive(Clone, Copy, Debug, PartialEq, Eq)]
+pub struct Ground {
+    pub rule: u8,
+    pub row: usize,
+    pub first: usize,
+    pub second: usize,
+}
+
+/// "Second, only for 4 and 6."
+pub fn uses_second_parent(rule: u8) -> bool {
+    rule == 4 || rule == 6
+}
+
+/// "Row is for rule 1 an edge number, or e + X for the horizon edge to X; for
+/// 2 to 4 a link; for 5 and 6 a proposition."
+pub fn row_in_range(plan: &Plan, rule: u8, row: usize) -> bool {
+    match rule {
+        1 => plan.edge(row).is_some(),
+        2..=4 => row < plan.links.len(),
+        5 | 6 => row < plan.observing.len(),
+        _ => false,
+    }
+}
+
+/// What a ground's rule gives from its parents among these lines. Its rule,
+/// row and parents must be in range.
+pub fn given(plan: &Plan, lines: &[Line], ground: Ground) -> Option<Line> {
+    let Ground { rule, row, first, second } = ground;
+    match rule {
+        1 => rule_1(&plan.edge(row)?, &lines[first]),
+        2 => rule_2(row, &plan.links[row], &lines[first]),
+        3 => rule_3(row, &plan.links[row], &lines[first]),
+        4 => rule_4(row, &plan.links[row], &lines[first], &lines[second]),
+        5 => rule_5(row, plan.observing[row], &lines[first]),
+        6 => rule_6(row, plan.observing[row], &lines[first], &lines[second]),
+        _ => None,
+    }
+}
+
+/// Hands over everything that the rules give from these lines alone, each
+/// line with its ground. Parents that a rule would turn away for their point,
+/// set or digit are mostly left out beforehand, only to save time.
+pub fn each_given(plan: &Plan, lines: &[Line], mut take: impl FnMut(Ground, Line)) {
+    let at = |point: usize| -> Vec<usize> {
+        (0..lines.len()).filter(|&place| lines[place].point == point).collect()
+    };
+    let mut attempt = |rule: u8, row: usize, first: usize, second: usize| {
+        let ground = Ground { rule, row, first, second };
+        if let Some(line) = given(plan, lines, ground) {
+            take(ground, line);
+        }
+    };
+
+    for row in 0..plan.edges.len() + plan.points {
+        if let Some(edge) = plan.edge(row) {
+            at(edge.to).into_iter().for_each(|y| attempt(1, row, y, 0));
+        }
+    }
+    for (row, link) in plan.links.iter().enumerate() {
+        let activations = at(link.activation);
+        at(link.end).into_iter().for_each(|c| attempt(2, row, c, 0));
+        activations.iter().for_each(|&a| attempt(3, row, a, 0));
+        for y in (0..lines.len()).filter(|&y| has_link(lines[y].set, row)) {
+            activations.iter().for_each(|&a| attempt(4, row, y, a));
+        }
+    }
+    for (row, &observing) in plan.observing.iter().enumerate() {
+        let observed = at(observing);
+        observed.iter().for_each(|&seen| attempt(5, row, seen, 0));
+        for y in (0..lines.len()).filter(|&y| digit(lines[y].label, row) != 0) {
+            observed.iter().for_each(|&seen| attempt(6, row, y, seen));
+        }
+    }
+}
+
+// ------------------------------------------------------------ the rounds
+
+/// The lines that a table holds: the longest wait of every cell above 0, and
+/// the starting line in a starting cell that is still 0. "A 0 in any other
+/// cell means no line, and no rule takes it as a parent."
+pub fn lines_held(plan: &Plan, table: &[u32]) -> Vec<Line> {
+    let lines = table.iter().enumerate().map(|(cell, &wait)| plan.line_in(cell, wait));
+    lines.filter(|line| line.wait > 0 || (line.set == 0 && line.label == 0)).collect()
+}
+
+/// "Table(r+1) is, cell by cell, the largest of table(r) and all that the
+/// rules give from table(r) alone."
+pub fn next_table(plan: &Plan, table: &[u32]) -> Vec<u32> {
+    let mut next = table.to_vec();
+    each_given(plan, &lines_held(plan, table), |_, line| {
+        let cell = plan.cell(&line);
+        next[cell] = next[cell].max(line.wait as u32);
+    });
+    next
+}
+
+/// Whether "Z has a cell above 0".
+pub fn alarm_waits(plan: &Plan, table: &[u32]) -> bool {
+    table[..plan.sets() * plan.labels()].iter().any(|&wait| wait > 0)
+}
+
+// ------------------------------------------------------------- the check
+
+#[derive(Clone, Copy, Debug, PartialEq, Eq)]
+pub enum Verdict {
+    Kept,
+    Broken,
+    Spent,
+}
+
+/// What the check answers, and the table that it leaves.
+#[derive(Clone, Debug, PartialEq, Eq)]
+pub struct Answer {
+    pub verdict: Verdict,
+    pub rounds: u32,
+    pub table: Vec<u32>,
+}
+
+/// "R is the least r ≥ 1 where Z has a cell above 0 or table(r) = table(r−1).
+/// If R is at most the limit it answers kept or broken with R; otherwise
+/// spent, with the limit as count." `watch` sees table(r−1) and table(r) of
+/// every round.
+pub fn run(plan: &Plan, limit: u32, mut watch: impl FnMut(&[u32], &[u32])) -> Answer {
+    let mut table = vec![0; plan.cells()];
+    for round in 1..=limit {
+        let next = next_table(plan, &table);
+        watch(&table, &next);
+        let unchanged = next == table;
+        table = next;
+        if alarm_waits(plan, &table) {
+            return Answer { verdict: Verdict::Broken, rounds: round, table };
+        }
+        if unchanged {
+            return Answer { verdict: Verdict::Kept, rounds: round, table };
+        }
+    }
+    Answer { verdict: Verdict::Spent, rounds: limit, table }
+}
+
+/// The check: "both tables then hold that round's table in their first cells,
+/// later entries untouched"; refusal 6 is "a lent table shorter than the
+/// cells".
+pub fn check(bytes: &[u8], first: &mut [u32], second: &mut [u32], limit: u32) -> Result<Answer, Refusal> {
+    let plan = read(bytes)?;
+    if first.len() < plan.cells() || second.len() < plan.cells() {
+        return Err(6);
+    }
+    let answer = run(&plan, limit, |_, _| ());
+    first[..plan.cells()].copy_from_slice(&answer.table);
+    second[..plan.cells()].copy_from_slice(&answer.table);
+    Ok(answer)
+}
+
+// ----------------------------------------------------------- the listing
+
+/// The answer of a listing, with the lines of a broken plan's listing; their
+/// rules and grounds are free.
+#[derive(Clone, Debug, PartialEq, Eq)]
+pub struct Listed {
+    pub answer: Answer,
+    pub lines: Vec<Line>,
+}
+
+/// "The listing of a broken plan has a line for every cell raised in rounds 1
+/// to R−1, by round, then cell, and last the lowest Z cell raised in round R."
+pub fn run_and_list(plan: &Plan, limit: u32) -> Listed {
+    let mut lines = Vec::new();
+    let answer = run(plan, limit, |table, next| {
+        let raised = (0..plan.cells()).filter(|&cell| next[cell] > table[cell]);
+        let last_round = alarm_waits(plan, next);
+        // Z's cells come before all others.
+        let listed = raised.take(if last_round { 1 } else { plan.cells() });
+        lines.extend(listed.map(|cell| plan.line_in(cell, next[cell])));
+    });
+    if answer.verdict != Verdict::Broken {
+        lines.clear();
+    }
+    Listed { answer, lines }
+}
+
+/// "m (16 bits); m heads of point, set, label, rule (one byte each), wait (32
+/// bits); then m grounds of row, first parent, second parent (16 bits each)":
+/// 2 + 14m bytes.
+pub fn listing_bytes(lines: usize) -> usize {
+    2 + 14 * lines
+}
+
+/// "The 16-bit table then holds n + i for the last listed line i of the cell;
+/// with none, X in X's starting cell and 0 elsewhere."
+fn index_table(plan: &Plan, lines: &[Line]) -> Vec<u16> {
+    let mut index = vec![0; plan.cells()];
+    for (number, line) in starting_lines(plan).iter().chain(lines).enumerate() {
+        index[plan.cell(line)] = number as u16;
+    }
+    index
+}
+
+/// The listing, up to the bytes of the output, of which only the length is
+/// taken. Refusal 7, "listing over 4,096 lines or longer than the output",
+/// leaves "two tables as after the check, the rest untouched".
+pub fn list(
+    bytes: &[u8],
+    first: &mut [u32],
+    second: &mut [u32],
+    limit: u32,
+    index: &mut [u16],
+    output: usize,
+) -> Result<Listed, Refusal> {
+    let plan = read(bytes)?;
+    let cells = plan.cells();
+    if first.len() < cells || second.len() < cells || index.len() < cells {
+        return Err(6);
+    }
+    let listed = run_and_list(&plan, limit);
+    first[..cells].copy_from_slice(&listed.answer.table);
+    second[..cells].copy_from_slice(&listed.answer.table);
+    if listed.answer.verdict == Verdict::Broken {
+        if listed.lines.len() > MOST_LINES || listing_bytes(listed.lines.len()) > output {
+            return Err(7);
+        }
+        index[..cells].copy_from_slice(&index_table(&plan, &listed.lines));
+    }
+    Ok(listed)
+}
+
+// ---------------------------------------------------------------- replay
+
+/// One line of a listing as its bytes say: head and ground.
+#[derive(Clone, Copy, Debug, PartialEq, Eq)]
+pub struct Entry {
+    pub point: u8,
+    pub set: u8,
+    pub label: u8,
+    pub rule: u8,
+    pub wait: u32,
+    pub row: u16,
+    pub first: u16,
+    pub second: u16,
+}
+
+impl Entry {
+    fn line(&self) -> Line {
+        Line { point: usize::from(self.point), set: self.set, label: self.label, wait: i64::from(self.wait) }
+    }
+
+    fn ground(&self) -> Ground {
+        Ground {
+            rule: self.rule,
+            row: usize::from(self.row),
+            first: usize::from(self.first),
+            second: usize::from(self.second),
+        }
+    }
+}
+
+/// The entries of a listing. Refusal 8: "under 2 bytes, m not 1..4,096, or
+/// length not 2 + 14m".
+pub fn read_listing(listing: &[u8]) -> Result<Vec<Entry>, Refusal> {
+    if listing.len() < 2 {
+        return Err(8);
+    }
+    let m = usize::from(u16::from_be_bytes([listing[0], listing[1]]));
+    if !(1..=MOST_LINES).contains(&m) || listing.len() != listing_bytes(m) {
+        return Err(8);
+    }
+    let heads = listing[2..2 + 8 * m].chunks_exact(8);
+    let grounds = listing[2 + 8 * m..].chunks_exact(6);
+    Ok(heads.zip(grounds).map(|(head, ground)| entry_of(head, ground)).collect())
+}
+
+fn entry_of(head: &[u8], ground: &[u8]) -> Entry {
+    Entry {
+        point: head[0],
+        set: head[1],
+        label: head[2],
+        rule: head[3],
+        wait: u32::from_be_bytes([head[4], head[5], head[6], head[7]]),
+        row: u16::from_be_bytes([ground[0], ground[1]]),
+        first: u16::from_be_bytes([ground[2], ground[3]]),
+        second: u16::from_be_bytes([ground[4], ground[5]]),
+    }
+}
+
+/// Replay: 0 or the refusal. "1 to 5, 8, then 9 and 10 line by line, then 11."
+pub fn replay(plan: &[u8], listing: &[u8]) -> Refusal {
+    match read(plan).and_then(|plan| replay_on(&plan, listing)) {
+        Ok(()) => 0,
+        Err(refusal) => refusal,
+    }
+}
+
+fn replay_on(plan: &Plan, listing: &[u8]) -> Result<(), Refusal> {
+    let entries = read_listing(listing)?;
+    // "Parents below n are starting lines; n + i is line i, counted from 0."
+    let mut lines = starting_lines(plan);
+    for entry in &entries {
+        if !entry_in_range(plan, entry, lines.len()) {
+            return Err(9);
+        }
+        if !entry_is_given(plan, entry, &lines) {
+            return Err(10);
+        }
+        lines.push(entry.line());
+    }
+    // "11: last line's point not 0, or its label not plain."
+    let last = &entries[entries.len() - 1];
+    if last.point != 0 || !plain(last.label) {
+        return Err(11);
+    }
+    Ok(())
+}
+
+/// Refusal 9: "line i: point, set, label, rule or row out of range, or a
+/// parent that the rule uses not below n + i"; `lines` is n + i.
+fn entry_in_range(plan: &Plan, entry: &Entry, lines: usize) -> bool {
+    let Ground { rule, row, first, second } = entry.ground();
+    usize::from(entry.point) < plan.points
+        && usize::from(entry.set) < plan.sets()
+        && usize::from(entry.label) < plan.labels()
+        && (1..=6).contains(&rule)
+        && row_in_range(plan, rule, row)
+        && first < lines
+        && (!uses_second_parent(rule) || second < lines)
+}
+
+/// Refusal 10: "line is not what its rule gives". Second parent: "only for 4
+/// and 6; else 0, anything else being refusal 10 and not 9".
+fn entry_is_given(plan: &Plan, entry: &Entry, lines: &[Line]) -> bool {
+    let ground = entry.ground();
+    let second_as_due = uses_second_parent(ground.rule) || ground.second == 0;
+    second_as_due && given(plan, lines, ground) == Some(entry.line())
+}
+
+// ----------------------------------------------------------- the program
+
+/// What the program prints for this input. "Over 800 bytes is refusal 1,
+/// before any other."
+pub fn program(input: &[u8]) -> String {
+    if input.len() > MOST_BYTES {
+        return refusal_text(1);
+    }
+    match read(input) {
+        Ok(plan) => answer_text(&plan, &run(&plan, EVERY_PLAN, |_, _| ())),
+        Err(refusal) => refusal_text(refusal),
+    }
+}
+
+pub fn refusal_text(refusal: Refusal) -> String {
+    format!("refused {refusal}\n")
+}
+
+/// "`kept R`, `broken R`, then for each point a line with its number and its
+/// cells in order, in decimal, one space between."
+pub fn answer_text(plan: &Plan, answer: &Answer) -> String {
+    let verdict = match answer.verdict {
+        Verdict::Kept => "kept",
+        Verdict::Broken => "broken",
+        Verdict::Spent => unreachable!("the program's limit serves every plan"),
+    };
+    let mut text = format!("{verdict} {}\n", answer.rounds);
+    for (point, cells) in answer.table.chunks(plan.sets() * plan.labels()).enumerate() {
+        text += &point.to_string();
+        for wait in cells {
+            text += &format!(" {wait}");
+        }
+        text += "\n";
+    }
+    text
+}

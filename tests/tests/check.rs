@@ -1,0 +1,61 @@
+//! The check: verdict, count and both tables, at every limit that matters.
+
+use sulgrach_tests::compare::{self, Lengths};
+use sulgrach_tests::generate::{samples, Class, Random, Sample};
+use sulgrach_tests::second::{self, Verdict, EVERY_PLAN};
+use sulgrach_tests::times;
+
+#[test]
+fn small_and_decisive_plans() {
+    for class in [Class::Small, Class::Decisive] {
+        for sample in samples(class, 0, times(4_000)) {
+            at_every_limit(&sample, 5_000);
+        }
+    }
+}
+
+#[test]
+fn mixed_plans() {
+    for sample in samples(Class::Mixed, 0, times(1_200)) {
+        at_every_limit(&sample, 150);
+    }
+}
+
+#[test]
+fn extreme_plans() {
+    for sample in samples(Class::Extreme, 0, times(100)) {
+        at_every_limit(&sample, 60);
+    }
+}
+
+#[test]
+fn slow_plans() {
+    for sample in samples(Class::Slow, 0, times(100)) {
+        at_every_limit(&sample, 20_000);
+    }
+}
+
+#[test]
+fn plans_near_the_most_cells() {
+    for sample in samples(Class::Dense, 0, times(24)) {
+        at_every_limit(&sample, 5);
+    }
+}
+
+/// Compares at limits 0, 1, R − 1, R, and the one that serves every plan, at
+/// times the largest. A plan without an R up to `cap` is compared up to there.
+fn at_every_limit(sample: &Sample, cap: u32) {
+    let plan = second::read(&sample.plan).unwrap_or_else(|refusal| panic!("refused {refusal}: {sample}"));
+    let answer = second::run(&plan, cap, |_, _| ());
+    let mut limits = vec![0, 1, answer.rounds - 1, answer.rounds];
+    if answer.verdict != Verdict::Spent {
+        limits.push([u32::MAX, EVERY_PLAN, EVERY_PLAN, EVERY_PLAN][sample.seed as usize % 4]);
+    }
+    limits.dedup();
+
+    let mut random = Random::new(sample.seed);
+    for limit in limits {
+        let lengths = Lengths::ample(&mut random, plan.cells(), 0);
+        compare::check(&mut random, &sample.plan, lengths, limit, sample);
+    }
+}

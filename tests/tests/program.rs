@@ -1,0 +1,262 @@
+//! The program as a process: plans on standard input, text on standard output.
+//! Its path is `SULGRACH_PROGRAM`, or else `target/bin/sulgrach` in the
+//! repository.
+
+use std::env;
+use std::fs;
+use std::io::{Read, Write};
+use std::os::unix::process::ExitStatusExt;
+use std::path::{Path, PathBuf};
+use std::process::{Child, Command, ExitStatus, Stdio};
+use std::thread;
+use std::time::{Duration, Instant};
+use sulgrach_tests::generate::faults::{faulty, faulty_many_times, FAULTS};
+use sulgrach_tests::generate::{hex, samples, Class, Draft, Random};
+use sulgrach_tests::second::{self, Edge, Link, Verdict, EVERY_PLAN, MOST_BYTES};
+use sulgrach_tests::times;
+
+/// Longer than any plan used here takes.
+const PATIENCE: Duration = Duration::from_secs(60);
+
+fn repository() -> PathBuf {
+    PathBuf::from(env!("CARGO_MANIFEST_DIR")).join("..")
+}
+
+fn start() -> Child {
+    let path = match env::var_os("SULGRACH_PROGRAM") {
+        Some(path) => PathBuf::from(path),
+        None => repository().join("target/bin/sulgrach"),
+    };
+    Command::new(&path)
+        .stdin(Stdio::piped())
+        .stdout(Stdio::piped())
+        .spawn()
+        .unwrap_or_else(|error| panic!("{}: {error}; name the program in SULGRACH_PROGRAM", path.display()))
+}
+
+/// Waits for the process to end; ends it, and the test, if it does not.
+fn wait(child: &mut Child) -> ExitStatus {
+    let started = Instant::now();
+    while started.elapsed() < PATIENCE {
+        if let Some(status) = child.try_wait().expect("the process can be waited for") {
+            return status;
+        }
+        thread::sleep(Duration::from_millis(1));
+    }
+    let _ = child.kill();
+    panic!("the program did not end");
+}
+
+/// What the program prints when its input comes in these pieces, with pauses
+/// between them.
+fn output(pieces: Vec<Vec<u8>>) -> String {
+    let mut child = start();
+    let mut input = child.stdin.take().expect("standard input");
+    let writer = thread::spawn(move || {
+        for (number, piece) in pieces.iter().enumerate() {
+            if number > 0 {
+                thread::sleep(Duration::from_millis(3));
+            }
+            // The program may have read enough and be gone.
+            if input.write_all(piece).and_then(|()| input.flush()).is_err() {
+                return;
+            }
+        }
+    });
+    let mut stdout = child.stdout.take().expect("standard output");
+    let reader = thread::spawn(move || {
+        let mut text = String::new();
+        stdout.read_to_string(&mut text).expect("text");
+        text
+    });
+    wait(&mut child);
+    writer.join().expect("the writer ends");
+    reader.join().expect("the reader ends")
+}
+
+fn output_at_once(input: &[u8]) -> String {
+    output(vec![input.to_vec()])
+}
+
+fn assert_prints(input: &[u8], expected: &str) {
+    assert_eq!(output_at_once(input), expected, "input {}", hex(&input[..input.len().min(MOST_BYTES + 1)]));
+}
+
+#[test]
+fn files_in_plans() {
+    let mut names: Vec<PathBuf> = fs::read_dir(repository().join("plans"))
+        .expect("the folder plans")
+        .map(|entry| entry.expect("a file").path())
+        .filter(|path| path.extension().is_some_and(|extension| extension == "plan"))
+        .collect();
+    names.sort();
+    assert!(names.len() >= 10, "only {} plans", names.len());
+    for name in names {
+        let expected = fs::read_to_string(name.with_extension("out")).expect("the text of each plan");
+        assert_eq!(output_at_once(&fs::read(&name).expect("a plan")), expected, "{}", name.display());
+    }
+}
+
+#[test]
+fn generated_plans() {
+    let classes = [
+        (Class::Small, 60),
+        (Class::Decisive, 60),
+        (Class::Mixed, 40),
+        (Class::Extreme, 15),
+        (Class::Slow, 15),
+    ];
+    for (class, count) in classes {
+        for sample in samples(class, 3_000_000, times(count)) {
+            let plan = second::read(&sample.plan).expect("an accepted plan");
+            let answer = second::run(&plan, 2_000, |_, _| ());
+            if answer.verdict != Verdict::Spent {
+                assert_prints(&sample.plan, &second::answer_text(&plan, &answer));
+            }
+        }
+    }
+}
+
+#[test]
+fn refused_plans() {
+    for (number, fault) in FAULTS.iter().enumerate() {
+        let plan = faulty(&mut Random::new(number as u64), fault);
+        assert_prints(&plan, &second::program(&plan));
+    }
+    for seed in 0..times(100) {
+        let plan = faulty_many_times(&mut Random::new(seed));
+        assert_prints(&plan, &second::program(&plan));
+    }
+}
+
+#[test]
+fn input_in_pieces() {
+    for sample in samples(Class::Decisive, 3_100_000, times(10)) {
+        let expected = second::program(&sample.plan);
+        let mut random = Random::new(sample.seed);
+        for most in [1, 7, 40] {
+            let mut pieces = Vec::new();
+            let mut rest = &sample.plan[..];
+            while !rest.is_empty() {
+                let (piece, later) = rest.split_at(rest.len().min(1 + random.below(most)));
+                pieces.push(piece.to_vec());
+                rest = later;
+            }
+            // An empty piece at the end: a pause before the input is closed.
+            pieces.push(Vec::new());
+            assert_eq!(output(pieces), expected, "{sample}");
+        }
+    }
+}
+
+/// 800 bytes, as 4 propositions, 4 links and 128 edges take. They would need 9
+/// points at least, which are too many cells, so no such plan is accepted; but
+/// this one is not refused for its length.
+fn plan_of_800_bytes() -> Vec<u8> {
+    let mut plan = vec![4, 4, 4, 128, 1, 2, 3, 1];
+    plan.resize(MOST_BYTES, 0);
+    plan
+}
+
+#[test]
+fn lengths_of_input() {
+    assert_prints(&[], "refused 1\n");
+    assert_prints(&plan_of_800_bytes(), "refused 3\n");
+    let mut one_more = plan_of_800_bytes();
+    one_more.push(0);
+    assert_prints(&one_more, "refused 1\n");
+
+    // Over 800 bytes comes before the sizes, which would be refusal 2.
+    assert_prints(&[255; 800], "refused 2\n");
+    assert_prints(&[255; 801], "refused 1\n");
+    assert_prints(&vec![255; 1_000_000], "refused 1\n");
+    assert_prints(&vec![0; 1_000_000], "refused 1\n");
+    // A plan with more after it.
+    let mut followed = fs::read(repository().join("plans/c1.plan")).expect("a plan");
+    followed.resize(1_000_000, 0);
+    assert_prints(&followed, "refused 1\n");
+    assert_eq!(output(vec![vec![255; 800], vec![255]]), "refused 1\n");
+    assert_eq!(output(vec![vec![255; 400], vec![255; 400], vec![]]), "refused 2\n");
+}
+
+#[test]
+fn the_longest_accepted_plan() {
+    // With p 3 and k 4 the most that is accepted: 4 + 3 + 6 × 132 bytes.
+    let mut draft = Draft { points: 16, observing: vec![1, 2, 3], links: vec![], edges: vec![] };
+    draft.links = (4..8).map(|end| Link { activation: 0, end, least: 1, most: 2 }).collect();
+    draft.edges = (0..128).map(|i| Edge { from: 8 + i % 8, to: i % 8, weight: i as i64, label: 0 }).collect();
+    let plan = draft.bytes();
+    assert_eq!(plan.len(), 799);
+    let read = second::read(&plan).expect("an accepted plan");
+    assert_prints(&plan, &second::answer_text(&read, &second::run(&read, EVERY_PLAN, |_, _| ())));
+}
+
+/// A reader that is gone does no harm: the process ends, by itself or by the
+/// signal that is usual for it.
+#[test]
+fn a_reader_that_closes_early() {
+    let small = fs::read(repository().join("plans/c2.plan")).expect("a plan");
+    let large = plan_of_much_text();
+    for (plan, read_first) in [(&small, 0), (&small, 1), (&large, 0), (&large, 1), (&large, 5_000)] {
+        let mut child = start();
+        let mut stdout = child.stdout.take().expect("standard output");
+        let mut stdin = child.stdin.take().expect("standard input");
+        if read_first == 0 {
+            drop(stdout);
+            let _ = stdin.write_all(plan);
+            drop(stdin);
+        } else {
+            let _ = stdin.write_all(plan);
+            drop(stdin);
+            stdout.read_exact(&mut vec![0; read_first]).expect("some output");
+            drop(stdout);
+        }
+        let status = wait(&mut child);
+        assert!(matches!(status.signal(), None | Some(SIGPIPE)), "{status}, {read_first} bytes read");
+    }
+}
+
+/// "Broken pipe"; the standard library has no name for it.
+const SIGPIPE: i32 = 13;
+
+/// A plan with more text than a pipe holds: waits of four digits in most of
+/// 16,384 cells, by the time that a chain of edges breaks the plan.
+fn plan_of_much_text() -> Vec<u8> {
+    let links = (4..7).map(|end| Link { activation: end + 10, end, least: 1_000, most: 3_000 }).collect();
+    let mut edges = vec![];
+    let mut edge = |from, to, weight, label| edges.push(Edge { from, to, weight, label });
+    edge(7, 0, -3_600, 0);
+    (8..12).for_each(|point| edge(point, point - 1, 0, 0));
+    edge(0, 11, 3_599, 0);
+    for observing in 1..4 {
+        edge(observing, 0, -1_000, 0);
+        edge(observing, 3 + observing, 0, 0);
+    }
+    let mut random = Random::new(3);
+    for point in 12..32 {
+        for to in [0, 4 + point % 3, 4 + (point + 1) % 3, 1 + point % 3] {
+            let label = (0..3).fold(0, |label, j| label | random.pick(&[0, 1, 2]) << (2 * j));
+            edge(point, to, if to == 0 { -1_000 } else { 0 }, label);
+        }
+    }
+    Draft { points: 32, observing: vec![1, 2, 3], links, edges }.bytes()
+}
+
+#[test]
+fn more_text_than_a_pipe_holds() {
+    let plan = plan_of_much_text();
+    let expected = second::program(&plan);
+    assert!(expected.len() > 65_536, "only {} bytes", expected.len());
+    assert_prints(&plan, &expected);
+}
+
+/// Every file named in `plans` has its partner.
+#[test]
+fn texts_have_plans() {
+    for entry in fs::read_dir(repository().join("plans")).expect("the folder plans") {
+        let path = entry.expect("a file").path();
+        if path.extension() == Some("out".as_ref()) {
+            assert!(Path::exists(&path.with_extension("plan")), "{}", path.display());
+        }
+    }
+}

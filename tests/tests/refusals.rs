@@ -1,0 +1,110 @@
+//! What is turned down: the number, the order of judging, and all lent memory
+//! untouched.
+
+use sulgrach_tests::compare::{self, Lengths};
+use sulgrach_tests::generate::faults::{faulty, faulty_many_times, sound, FAULTS};
+use sulgrach_tests::generate::{hex, samples, Class, Random};
+use sulgrach_tests::second::{self, Verdict, EVERY_PLAN, MOST_CELLS};
+use sulgrach_tests::times;
+
+/// A listing that any accepted plan's replay reads and none accepts.
+const SOME_LISTING: [u8; 16] = [0, 1, 0, 0, 0, 1, 0, 0, 0, 0, 0, 0, 0, 0, 0, 0];
+
+#[test]
+fn every_clause_alone() {
+    for (number, fault) in FAULTS.iter().enumerate() {
+        for seed in 0..times(40) {
+            let mut random = Random::new(seed * 1_000 + number as u64);
+            let plan = faulty(&mut random, fault);
+            let case = format!("{}, seed {seed}, plan {}", fault.clause, hex(&plan));
+            assert_eq!(second::read(&plan), Err(fault.refusal), "the second checker; {case}");
+            every_call(&mut random, &plan, &case);
+        }
+    }
+}
+
+#[test]
+fn several_faults_in_order() {
+    for seed in 0..times(4_000) {
+        let mut random = Random::new(seed);
+        let plan = faulty_many_times(&mut random);
+        every_call(&mut random, &plan, &format!("several faults, seed {seed}, plan {}", hex(&plan)));
+    }
+}
+
+#[test]
+fn any_bytes_changed() {
+    for seed in 0..times(4_000) {
+        let mut random = Random::new(seed);
+        let (_, mut plan) = sound(&mut random);
+        for _ in 0..random.between(1, 3) {
+            // The sizes are changed as often as all the rest.
+            let places = if random.chance(50) { 4 } else { plan.len() };
+            let place = random.below(places);
+            plan[place] = random.pick(&[0, 1, 2, 3, 4, 255, plan[place] ^ 1, plan[place] ^ 128]);
+        }
+        every_call(&mut random, &plan, &format!("bytes changed, seed {seed}, plan {}", hex(&plan)));
+    }
+}
+
+#[test]
+fn tables_too_short() {
+    for sample in
+        samples(Class::Small, 4_000_000, times(600)).chain(samples(Class::Dense, 4_000_000, times(10)))
+    {
+        let cells = second::read(&sample.plan).expect("an accepted plan").cells();
+        let mut random = Random::new(sample.seed);
+        for which in 0..5 {
+            let mut lengths = Lengths::ample(&mut random, cells, compare::LONGEST_LISTING);
+            let short = random.pick(&[0, 1, cells / 2, cells - 1, cells - 1]);
+            match which {
+                0 => lengths.first = short,
+                1 => lengths.second = short,
+                2 => lengths.index = short,
+                3 => (lengths.first, lengths.second) = (short, cells - 1),
+                _ => (lengths.first, lengths.second, lengths.index) = (cells - 1, short, short),
+            }
+            let limit = random.pick(&[0, 1, 3]);
+            compare::check(&mut random, &sample.plan, lengths, limit, &sample);
+            compare::list(&mut random, &sample.plan, lengths, limit, &sample);
+        }
+    }
+}
+
+#[test]
+fn bounds_that_are_still_accepted() {
+    let at_bounds: [(&str, Vec<u8>); 6] = [
+        ("n 2", vec![2, 0, 0, 0]),
+        ("n 32", vec![32, 0, 0, 0]),
+        ("s 1, y 2", vec![2, 0, 1, 0, 0, 1, 0, 1, 0, 2]),
+        ("s 3,599, y 3,600", vec![2, 0, 1, 0, 0, 1, 0x0e, 0x0f, 0x0e, 0x10]),
+        ("u 3,600", vec![2, 0, 0, 1, 1, 0, 0x0e, 0x10, 0, 0]),
+        ("u −3,600", vec![2, 0, 0, 1, 1, 0, 0xf1, 0xf0, 0, 0]),
+    ];
+    for (number, (bound, plan)) in at_bounds.iter().enumerate() {
+        assert!(second::read(plan).is_ok(), "{bound}");
+        every_call(&mut Random::new(number as u64), plan, bound);
+    }
+    for label in 0..=255 {
+        let plan = [5, 4, 0, 1, 1, 2, 3, 4, 0, 1, 0, 0, label, 0];
+        let expected = if second::plain(label) { None } else { Some(5) };
+        assert_eq!(second::read(&plan).err(), expected, "label {label}");
+        every_call(&mut Random::new(label.into()), &plan, &format!("label {label}"));
+    }
+}
+
+/// All three calls on a plan that may be refused. An accepted one is only run
+/// as far as it takes to see that both go on with it.
+fn every_call(random: &mut Random, plan: &[u8], case: &str) {
+    let cells = random.pick(&[0, 20, MOST_CELLS, MOST_CELLS]);
+    let lengths =
+        Lengths { first: cells, second: cells, index: cells, output: random.pick(&[0, 100, 2_000]) };
+    let limit = match second::read(plan) {
+        Ok(accepted) if second::run(&accepted, 8, |_, _| ()).verdict == Verdict::Spent => 8,
+        _ => random.pick(&[0, 1, 2, EVERY_PLAN, u32::MAX]),
+    };
+    compare::check(random, plan, lengths, limit, &case);
+    compare::list(random, plan, lengths, limit, &case);
+    compare::replay(plan, &SOME_LISTING, &case);
+    compare::replay(plan, &[], &case);
+}
