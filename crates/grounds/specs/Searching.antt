@@ -1,10 +1,9 @@
 -- What the parts of the search answer, for the contracts of its functions: nothing here is to be believed, since the whole answers `Tells`.
 use mathlib.Core.Path.{_≡_}
-use mathlib.Core.Bool.{Bool, true, false, _&&_}
+use mathlib.Core.Bool.{Bool, true, false}
 use mathlib.Core.Logic.{_⊎_}
 use mathlib.Core.List.{List}
 use Prim.Native.Nat.{ℕ, _-_, _*_, _^_, _≤_, _<_}
-use lib.Dec.{eqb}
 use lib.ListN.{length}
 use Rattle.plan.specs.Label.{Marks}
 use Rattle.plan.specs.Plan.{Plan, width, cells}
@@ -13,7 +12,7 @@ use Rattle.plan.specs.Refusal.{Accepted}
 use Rattle.rules.specs.declared.Line.{Line}
 use Rattle.rules.specs.declared.Rule.{Rule}
 use Rattle.rules.specs.declared.Rule.the-variants.{Propagation, LowerCase, UpperCase, LetterRemoval, OwnLiteral, LiteralRemoval}
-use Rattle.rules.specs.Rules.{edgeFrom, fires, result}
+use Rattle.rules.specs.Rules.{edgeFrom}
 use Rattle.grounds.specs.declared.Found.{Found}
 use Rattle.grounds.specs.declared.Found.the-variants.{By, Nothing}
 use Rattle.grounds.specs.declared.Search.{Search}

@@ -2,7 +2,7 @@
 use mathlib.Core.Path.{_≡_, refl, sym, ap, _∙_}
 use mathlib.Core.Bool.{cond}
 use mathlib.Core.List.{List, [], _∷_, _++_, map}
-use Prim.Native.Nat.{ℕ, zero, suc, _+_, _-_, _<_}
+use Prim.Native.Nat.{ℕ, zero, suc, _+_, _<_}
 use native.Mathlib.Decide.{ℕ-discrete}
 use native.Mathlib.Omega.{arith}
 use lib.Dec.{eqb}
@@ -11,7 +11,7 @@ use lib.Seq.{ext-getD, getD-set-same, getD-set-other}
 use borrow.Author.Tests.{eq-eqb, ne-eqb}
 use Rattle.plan.specs.Plan.{Plan, cells}
 use Rattle.rules.specs.declared.Line.{Line}
-use Rattle.rules.specs.Lines.{fromTo, below, cellOf}
+use Rattle.rules.specs.Lines.{fromTo, cellOf}
 use Rattle.lines.specs.Listed.{lastNumber, startNumber, indexAt, indexTable}
 
 -- ---- a list made from the numbers below n

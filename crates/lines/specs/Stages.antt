@@ -1,8 +1,7 @@
 -- For the contracts of the functions that write a listing. Nothing here is to be believed: what the whole promises is in Handed.
 use mathlib.Core.Path.{_≡_}
-use mathlib.Core.Bool.{true}
 use mathlib.Core.List.{List, _++_}
-use Prim.Native.Nat.{ℕ, suc, _+_, _*_, _≤_, _<_}
+use Prim.Native.Nat.{ℕ, _+_, _<_}
 use lib.Dec.{T as Is}
 use lib.ListN.{length, getD}
 use Rattle.plan.specs.Label.{Marks}
@@ -11,15 +10,13 @@ use Rattle.plan.specs.Layout.{planOf}
 use Rattle.plan.specs.Refusal.{Accepted}
 use Rattle.rules.specs.declared.Line.{Line}
 use Rattle.rules.specs.Lines.{lineAt, startingLine}
-use Rattle.rules.specs.Tables.{next}
-use Rattle.filling.specs.Lent.{AtMost}
 use Rattle.grounds.specs.Grounds.{holdsLine}
 use Rattle.rounds.specs.Rounds.{zeros}
 use Rattle.rounds.specs.Outcomes.{broken, runOutcome}
 use Rattle.replay.specs.Listings.{lineCount, headLine, parentLine}
 use Rattle.replay.specs.Derives.{LineDerives}
 use Rattle.writing.specs.Writing.{SameFields}
-use Rattle.lines.specs.Listed.{table, linesTo, raisedLines, listingLines, indexTable}
+use Rattle.lines.specs.Listed.{indexTable}
 
 -- the plan breaks in round r
 pub record BreaksIn (P : Plan) (r : ℕ) : Type 0 where

@@ -1,11 +1,11 @@
 -- Laws of labels: joining two is `|` digit by digit, what a join and a cleared digit are bounded by, and plain labels.
 use mathlib.Core.Path.{_≡_, refl, sym, ap, ap₂, _∙_}
 use mathlib.Core.Bool.{Bool, true, false, cond, not, _&&_}
-use Prim.Native.Nat.{ℕ, zero, suc, _+_, _-_, _*_, _/_, _%_, _^_, _≤_, _<_}
+use Prim.Native.Nat.{ℕ, zero, suc, _+_, _*_, _/_, _%_, _^_, _≤_, _<_}
 use native.Mathlib.Nat.{pow-suc, mod-lt, div-add-mod', div-lt-iff-lt-mul, div-mul-le-self, mod-le, mul-le-mul-right, le-trans, one-le-pow, zero-div}
 use native.Mathlib.Omega.{arith}
 use lib.Dec.{eqb, lit<}
-use lib.Bits.{bitOr, bitAnd, and-mask, or-block}
+use lib.Bits.{bitOr, or-block}
 use lib.Pow.{pow-add}
 use Rattle.plan.specs.Label.{digit, joinDigit, join, plain, clearDigit}
 

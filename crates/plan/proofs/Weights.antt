@@ -1,5 +1,5 @@
 -- A 16-bit weight is its up less its down, and one of the two is 0.
-use mathlib.Core.Path.{_≡_, sym, _∙_}
+use mathlib.Core.Path.{_≡_}
 use Prim.Native.Nat.{ℕ, _-_, _≤_, _<_}
 use borrow.Author.Tests.{lt-ltb, le-ltb}
 use Rattle.plan.specs.Layout.{upOf, downOf}

@@ -2,7 +2,7 @@
 use mathlib.Core.List.{List, [], _∷_, map}
 use Prim.Native.Nat.{ℕ, zero, suc, _+_, _*_, _/_, _%_, _^_}
 use lib.ListN.{getD}
-use Rattle.plan.specs.Plan.{Plan, width}
+use Rattle.plan.specs.Plan.{Plan}
 use Rattle.rules.specs.declared.Line.{Line}
 
 -- the n numbers from i on

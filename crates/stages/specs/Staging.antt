@@ -3,7 +3,7 @@ use mathlib.Core.Path.{_≡_}
 use mathlib.Core.List.{List, []}
 use Prim.Native.Nat.{ℕ, suc, _+_, _*_, _≤_, _<_}
 use lib.ListN.{length, getD}
-use Rattle.plan.specs.Plan.{Plan, width, cells}
+use Rattle.plan.specs.Plan.{Plan, width}
 use Rattle.plan.specs.Layout.{planOf}
 use Rattle.rules.specs.declared.Line.{Line}
 use Rattle.rules.specs.Tables.{next}

@@ -1,5 +1,4 @@
 -- Quotients and remainders by the labels and the sets take a cell apart.
-use Prim.Native.Nat.{_-_}
 use denote.Ref.{now}
 use Rattle.rounds.proofs.Tabling.{sizes-few}
 use Rattle.lines.specs.Listed.{table}

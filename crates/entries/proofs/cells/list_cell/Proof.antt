@@ -1,5 +1,4 @@
 -- A cell that was not raised has no line.
-use Prim.Native.Nat.{_-_}
 use native.Mathlib.Omega.{arith}
 use denote.Ref.{now}
 use borrow.Author.Needs.{needs}

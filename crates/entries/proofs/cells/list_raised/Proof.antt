@@ -1,5 +1,4 @@
 -- A raised cell has a ground, and its line stands by it.
-use Prim.Native.Nat.{_-_}
 use denote.Ref.{now}
 use Rattle.plan.specs.Layout.{planOf}
 use Rattle.entries.proofs.EntryLaws.{found-in, raised-listed}

@@ -1,6 +1,5 @@
 -- What was found is written; nothing is written where nothing was found.
 use mathlib.Core.Path.{refl}
-use Prim.Native.Nat.{_-_}
 use native.Mathlib.Omega.{arith}
 use denote.Ref.{now}
 use Rattle.plan.specs.Layout.{planOf}

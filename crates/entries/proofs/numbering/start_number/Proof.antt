@@ -1,5 +1,4 @@
 -- A cell is a starting cell where the width divides it.
-use Prim.Native.Nat.{_-_}
 use native.Mathlib.Omega.{arith}
 use Rattle.entries.proofs.NumberLaws.{start-other, start-point, quotient-fits}
 use borrow.Author.Needs.{needs}

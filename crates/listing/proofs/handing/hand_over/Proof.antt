@@ -1,6 +1,6 @@
 -- The first cells of the tables and the first bytes of the output are lent; what comes back is the listing.
 use mathlib.Core.Path.{sym, _∙_}
-use Prim.Native.Nat.{_+_, _-_, _*_}
+use Prim.Native.Nat.{_+_, _*_}
 use native.Mathlib.Omega.{arith}
 use denote.Ref.{now}
 use Rattle.plan.specs.Plan.{cells}

@@ -1,5 +1,4 @@
 -- The first cells of both tables are lent, and come back as they were.
-use Prim.Native.Nat.{_-_}
 use denote.Ref.{now}
 use Rattle.plan.specs.Plan.{cells}
 use Rattle.rounds.proofs.Tabling.{sizes-few}

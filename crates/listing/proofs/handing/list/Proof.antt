@@ -1,10 +1,9 @@
 -- A refusal leaves everything as it was; else the check answers, and a broken plan is listed.
 use mathlib.Core.Path.{sym, _∙_}
-use Prim.Native.Nat.{_-_}
 use native.Mathlib.Omega.{arith}
 use denote.Ref.{now}
 use Rattle.plan.specs.Plan.{cells}
-use Rattle.rounds.specs.Outcomes.{broken, outcomeOf}
+use Rattle.rounds.specs.Outcomes.{outcomeOf}
 use Rattle.rounds.proofs.Tabling.{sizes-few}
 use Rattle.listing.proofs.HandLaws.{check-follows, list-refused, list-short, list-answered}
 use borrow.Author.Needs.{needs}

@@ -1,8 +1,7 @@
 -- Only broken has a listing.
 use mathlib.Core.Path.{refl, ap}
-use Prim.Native.Nat.{_-_}
 use denote.Ref.{now}
-use Rattle.rounds.specs.Outcomes.{broken, outcomeOf}
+use Rattle.rounds.specs.Outcomes.{outcomeOf}
 use Rattle.listing.proofs.HandLaws.{answered-kept, answered-spent, answered-refused, answered-as, broke-as}
 use borrow.Author.Needs.{needs}
 use Rattle.listing.proofs.handing.list_checked.Statement.{statement}

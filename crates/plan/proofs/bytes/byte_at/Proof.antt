@@ -1,6 +1,5 @@
 -- `plan::bytes::byte_at` meets its contract: past the end `getD` is 0 too.
 use mathlib.Core.Path.{sym}
-use native.Mathlib.Omega.{arith}
 use borrow.Author.Needs.{needs}
 use lib.ListN.{List·getD-eq-default}
 use Rattle.plan.specs.Bytes.{byteAt}

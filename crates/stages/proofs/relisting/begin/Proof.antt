@@ -1,12 +1,10 @@
 -- The first table is cleared, the 16-bit table started and the number of lines written.
-use Prim.Native.Nat.{_-_}
 use denote.Ref.{now}
 use borrow.Author.Needs.{needs}
 use Rattle.plan.specs.Plan.{cells}
 use Rattle.plan.specs.Layout.{planOf}
 use Rattle.rounds.proofs.Tabling.{sizes-few}
 use Rattle.writing.proofs.Putting.{count-put}
-use Rattle.lines.specs.Listed.{table}
 use Rattle.lines.proofs.Exactly.{clear-exact}
 use borrow.Author.Needs.{needs}
 use Rattle.stages.proofs.relisting.begin.Statement.{statement}

@@ -1,5 +1,4 @@
 -- The lowest raised Z cell has the last line and its number.
-use Prim.Native.Nat.{_-_}
 use native.Mathlib.Omega.{arith}
 use denote.Ref.{now}
 use Rattle.plan.specs.Plan.{width}

@@ -4,7 +4,7 @@ use Prim.Native.Nat.{_-_, _≤_}
 use native.Mathlib.Omega.{arith}
 use denote.Ref.{now}
 use borrow.Author.Needs.{needs}
-use Rattle.plan.specs.Plan.{width, cells}
+use Rattle.plan.specs.Plan.{width}
 use Rattle.lines.specs.Listed.{lowestRaised}
 use Rattle.stages.proofs.StageLaws.{lowest-start, lowest-here, lowest-on, lowest-none}
 use Rattle.stages.proofs.relisting.lowest.Statement.{statement}

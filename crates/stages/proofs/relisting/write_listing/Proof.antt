@@ -1,6 +1,5 @@
 -- Begun, the rounds before the last, and the last: the whole is the listing.
 use mathlib.Core.Path.{_∙_}
-use Prim.Native.Nat.{_-_}
 use native.Mathlib.Omega.{arith}
 use denote.Ref.{now}
 use borrow.Author.Needs.{needs}
