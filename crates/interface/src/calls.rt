@@ -10,7 +10,7 @@ ghost use Rattle.plan.specs.Plan.{cells as cellsOf};
 ghost use Rattle.plan.specs.Layout.{planOf};
 ghost use Rattle.plan.specs.Refusal.{Accepted};
 ghost use Rattle.rounds.specs.Outcomes.{checkOutcome, checkTable};
-ghost use Rattle.rounds.specs.Demand.{Demand3, enoughRounds};
+ghost use Rattle.rounds.specs.Demand.{Demand3};
 ghost use Rattle.replay.specs.Replaying as replaying;
 ghost use Rattle.replay.specs.Derives.{ListingDerives};
 ghost use Rattle.interface.specs.Codes.{codeOf, countInto};
@@ -28,7 +28,7 @@ pub extern "C" fn sulgrach_check(
     ensures { λ _. ⌜ now (first .exit) ≡ checkTable (now (plan .entry)) (now (first .entry)) (now (second .entry)) limit (now (first .entry)) ⌝ }
     ensures { λ _. ⌜ now (second .exit) ≡ checkTable (now (plan .entry)) (now (first .entry)) (now (second .entry)) limit (now (second .entry)) ⌝ }
     ensures { λ _. ⌜ now (rounds .exit) ≡ countInto (checkOutcome (now (plan .entry)) (now (first .entry)) (now (second .entry)) limit) (now (rounds .entry)) ⌝ }
-    ensures { λ _. ⌜ (Accepted (now (plan .entry)) → cellsOf (planOf (now (plan .entry))) ≤ length (now (first .entry)) → cellsOf (planOf (now (plan .entry))) ≤ length (now (second .entry)) → enoughRounds (planOf (now (plan .entry))) ≤ limit → Demand3 (planOf (now (plan .entry))) (checkOutcome (now (plan .entry)) (now (first .entry)) (now (second .entry)) limit) (now (first .exit))) ⌝ }
+    ensures { λ _. ⌜ (Accepted (now (plan .entry)) → cellsOf (planOf (now (plan .entry))) ≤ length (now (first .entry)) → cellsOf (planOf (now (plan .entry))) ≤ length (now (second .entry)) → Demand3 (planOf (now (plan .entry))) limit (checkOutcome (now (plan .entry)) (now (first .entry)) (now (second .entry)) limit) (now (first .exit))) ⌝ }
 {
     let answer = check(plan, first, second, limit);
     put_count(rounds, answer);

@@ -16,7 +16,7 @@ use Rattle.plan.proofs.Ranges.{accepted-well-formed, accepted-bounded}
 use Rattle.filling.specs.Lent.{laidOver}
 use Rattle.rounds.specs.Rounds.{tableFrom, zeros, roundsTo}
 use Rattle.rounds.specs.Outcomes.{Outcome, refused, runOutcome, runTable, tooShort, checkOutcome, checkTable}
-use Rattle.rounds.specs.Demand.{Demand3, enoughRounds}
+use Rattle.rounds.specs.Demand.{Demand3}
 use Rattle.rounds.specs.Ready.{RoomFrom, Ran}
 use Rattle.rounds.proofs.Stopping.{none-runs}
 use Rattle.rounds.proofs.Small.{table-length, table-high, run-length}
@@ -32,15 +32,16 @@ Met bs F G limit o F′ G′ =
     (o ≡ checkOutcome bs F G limit)
     × ((F′ ≡ checkTable bs F G limit F)
     × ((G′ ≡ checkTable bs F G limit G)
-    × (Accepted bs → cells (planOf bs) ≤ length F → cells (planOf bs) ≤ length G → enoughRounds (planOf bs) ≤ limit → Demand3 (planOf bs) o F′)))
+    × (Accepted bs → cells (planOf bs) ≤ length F → cells (planOf bs) ≤ length G → Demand3 (planOf bs) limit o F′)))
 
 -- demand 3 speaks of the first cells alone
-demand-on : (P : Plan) (o : Outcome) (A B : List ℕ) → length A ≡ cells P → Demand3 P o A → Demand3 P o (A ++ B)
-demand-on P o A B e d = record {
+demand-on : (P : Plan) (limit : ℕ) (o : Outcome) (A B : List ℕ) → length A ≡ cells P → Demand3 P limit o A → Demand3 P limit o (A ++ B)
+demand-on P limit o A B e d = record {
   broken-then = d .broken-then;
+  kept-then = d .kept-then;
+  longest-waits = λ k c h. rw (List·getD-append A B 0 c (omega arith)) (d .longest-waits k c h);
   broken-if = d .broken-if;
   otherwise-kept = d .otherwise-kept;
-  longest-waits = λ k c h. rw (List·getD-append A B 0 c (omega arith)) (d .longest-waits k c h);
 }
 
 module _ (bs F G : List ℕ) (limit : ℕ) where
@@ -58,11 +59,11 @@ module _ (bs F G : List ℕ) (limit : ℕ) where
   pub check-all : (o : Outcome) (F′ G′ : List ℕ) → Told bs F G limit o F′ G′ → Met bs F G limit o F′ G′
   check-all o F′ G′ t = (t .0, (t .1 .0, (t .1 .1, demand)))
     where
-      demand : Accepted bs → cells (planOf bs) ≤ length F → cells (planOf bs) ≤ length G → enoughRounds (planOf bs) ≤ limit → Demand3 (planOf bs) o F′
-      demand a f g h =
+      demand : Accepted bs → cells (planOf bs) ≤ length F → cells (planOf bs) ≤ length G → Demand3 (planOf bs) limit o F′
+      demand a f g =
           let P = planOf bs in
           rw (t .0 ∙ check-runs a f g, t .1 .0 ∙ check-leaves a f g F)
-          (demand-on P (runOutcome P (zeros P) limit) (runTable P (zeros P) limit) (drop (cells P) F) (run-length P (accepted-well-formed bs a) (zeros P) (length-replicate (cells P) 0) limit) (demand-3-bytes bs a limit h))
+          (demand-on P limit (runOutcome P (zeros P) limit) (runTable P (zeros P) limit) (drop (cells P) F) (run-length P (accepted-well-formed bs a) (zeros P) (length-replicate (cells P) 0) limit) (demand-3-bytes bs a limit))
 
   -- ---- where it refuses
   pub check-refused : (k : ℕ) → k ≡ refusal bs → (k ≡ 0 → ⊥) → Met bs F G limit (refused k) F G

@@ -1,4 +1,4 @@
--- Demand 3, of any well-formed plan, of the bytes of any accepted plan, and with the limit that serves them all.
+-- Demand 3, of any well-formed plan and of the bytes of any accepted plan, and the limit that serves them all.
 use mathlib.Core.Path.{_≡_, refl, sym, subst, _∙_}
 use mathlib.Core.Bool.{Bool, true, false}
 use mathlib.Core.Logic.{_⊎_, inl, inr}
@@ -14,7 +14,7 @@ use Rattle.rules.proofs.Next.{IsNext, next-is}
 use Rattle.rounds.specs.Rounds.{tableFrom, zeros, firstAlarmWaits, stopsAt}
 use Rattle.rounds.specs.Outcomes.{runOutcome, runTable}
 use Rattle.rounds.specs.Demand.{Demand3, enoughRounds}
-use Rattle.rounds.proofs.Stopping.{same-eq, Running, running-less, tests-fail, one-holds, Stops, stops-or-runs, ends-broken, ends-kept}
+use Rattle.rounds.proofs.Stopping.{same-eq, Running, running-less, tests-fail, one-holds, Stops, stops-or-runs, ends-broken, ends-kept, ends-spent}
 use Rattle.rounds.proofs.Sums.{sum, sum-lt, sum-bound}
 use Rattle.rounds.proofs.Verdict.{Inv, inv-table, self-wait, no-self-wait, holds-longest}
 
@@ -41,7 +41,7 @@ module _ (P : Plan) (wf : WellFormed P) where
 
   module _ (limit : ℕ) where
     -- round r + 1 is the first that stops
-    stops-demand : (r : ℕ) → r < limit → Running P (zeros P) r → stopsAt P (zeros P) (suc r) ≡ true → Demand3 P (runOutcome P (zeros P) limit) (runTable P (zeros P) limit)
+    stops-demand : (r : ℕ) → r < limit → Running P (zeros P) r → stopsAt P (zeros P) (suc r) ≡ true → Demand3 P limit (runOutcome P (zeros P) limit) (runTable P (zeros P) limit)
     stops-demand r h g s = go (firstAlarmWaits P B) refl
       where
         A : List ℕ
@@ -56,36 +56,40 @@ module _ (P : Plan) (wf : WellFormed P) where
         n : IsNext P A B
         n = next-is P wf A (v .sized)
 
-        go : (b : Bool) → firstAlarmWaits P B ≡ b → Demand3 P (runOutcome P (zeros P) limit) (runTable P (zeros P) limit)
+        go : (b : Bool) → firstAlarmWaits P B ≡ b → Demand3 P limit (runOutcome P (zeros P) limit) (runTable P (zeros P) limit)
         go true e =
             let w = self-wait P wf A B v n e in
             let d = ends-broken P (zeros P) limit r h g e in
-            rw (d .outcome-is, d .table-is) (record { broken-then = λ b. w; broken-if = λ x. tt; otherwise-kept = λ no. no w; longest-waits = λ k. absurd k })
+            rw (d .outcome-is, d .table-is) (record { broken-then = λ b. w; kept-then = λ k. absurd k; longest-waits = λ k. absurd k; broken-if = λ h x. tt; otherwise-kept = λ h no. no w })
         go false e =
             let q = one-holds P (zeros P) r s e in
             let b : B ≡ A = sym (same-eq A B q) in
             let m : IsNext P A A = subst (IsNext P A) b n in
             let d = ends-kept P (zeros P) limit r h g e q in
-            rw (d .outcome-is, d .table-is ∙ b) (record { broken-then = λ x. absurd x; broken-if = no-self-wait P wf A v m; otherwise-kept = λ no. tt; longest-waits = λ k. holds-longest P wf A v m })
+            rw (d .outcome-is, d .table-is ∙ b) (record { broken-then = λ x. absurd x; kept-then = λ k. no-self-wait P wf A v m; longest-waits = λ k. holds-longest P wf A v m; broken-if = λ h x. absurd (no-self-wait P wf A v m x); otherwise-kept = λ h no. tt })
 
-    pub demand-3 : enoughRounds P ≤ limit → Demand3 P (runOutcome P (zeros P) limit) (runTable P (zeros P) limit)
-    demand-3 h = go (stops-or-runs P (zeros P) limit)
+    -- no round up to the limit stops, so that it is not enough
+    runs-demand : Running P (zeros P) limit → Demand3 P limit (runOutcome P (zeros P) limit) (runTable P (zeros P) limit)
+    runs-demand g =
+        let few : enoughRounds P ≤ limit → ⊥ = λ h. omega (arith, running-bound limit g) in
+        let d = ends-spent P (zeros P) limit g in
+        rw (d .outcome-is, d .table-is) (record { broken-then = λ x. absurd x; kept-then = λ x. absurd x; longest-waits = λ x. absurd x; broken-if = λ h x. absurd (few h); otherwise-kept = λ h no. absurd (few h) })
+
+    pub demand-3 : Demand3 P limit (runOutcome P (zeros P) limit) (runTable P (zeros P) limit)
+    demand-3 = go (stops-or-runs P (zeros P) limit)
       where
-        go : ((r : ℕ) × Stops P (zeros P) limit r) ⊎ Running P (zeros P) limit → Demand3 P (runOutcome P (zeros P) limit) (runTable P (zeros P) limit)
+        go : ((r : ℕ) × Stops P (zeros P) limit r) ⊎ Running P (zeros P) limit → Demand3 P limit (runOutcome P (zeros P) limit) (runTable P (zeros P) limit)
         go (inl (r, s)) = stops-demand (s .before) (s .within) (s .runs) (s .here)
-        go (inr g) = absurd (omega (arith, running-bound limit g))
+        go (inr g) = runs-demand g
 
 -- ---- over the bytes of a plan
 module _ (bs : List ℕ) (accepted : Accepted bs) where
-  pub demand-3-bytes : (limit : ℕ) → enoughRounds (planOf bs) ≤ limit → Demand3 (planOf bs) (runOutcome (planOf bs) (zeros (planOf bs)) limit) (runTable (planOf bs) (zeros (planOf bs)) limit)
-  demand-3-bytes limit h = demand-3 (planOf bs) (accepted-well-formed bs accepted) limit h
+  pub demand-3-bytes : (limit : ℕ) → Demand3 (planOf bs) limit (runOutcome (planOf bs) (zeros (planOf bs)) limit) (runTable (planOf bs) (zeros (planOf bs)) limit)
+  demand-3-bytes limit = demand-3 (planOf bs) (accepted-well-formed bs accepted) limit
 
+  -- the limit that serves every accepted plan
   pub serves : enoughRounds (planOf bs) ≤ 1946435585
   serves =
       let b = accepted-bounded bs accepted in
       let h : planOf bs .horizon + planOf bs .largest + 1 ≤ 118801 = omega (arith, b .horizon-in, b .largest-in) in
       omega (arith, mul-le-mul (b .cells-in) h)
-
-  -- with the limit that serves every accepted plan
-  pub demand-3-always : Demand3 (planOf bs) (runOutcome (planOf bs) (zeros (planOf bs)) 1946435585) (runTable (planOf bs) (zeros (planOf bs)) 1946435585)
-  demand-3-always = demand-3-bytes 1946435585 serves

@@ -24,13 +24,15 @@ pub record HoldsLongest (P : Plan) (c v : ℕ) : Type 0 where
   pub where-reached : (w : ℕ) → Reaches P c w → Reaches P c v × ((u : ℕ) → Reaches P c u → u ≤ v)
   pub where-not : ((w : ℕ) → Reaches P c w → ⊥) → v ≡ 0
 
--- "broken exactly when one makes the first alarm wait for itself; on kept every cell holds the longest wait any derivation reaches, 0 where none does"
-pub record Demand3 (P : Plan) (o : Outcome) (table : List ℕ) : Type 0 where
-  pub broken-then : IsBroken o → SelfWait P
-  pub broken-if : SelfWait P → IsBroken o
-  pub otherwise-kept : (SelfWait P → ⊥) → IsKept o
-  pub longest-waits : IsKept o → (c : ℕ) → c < cells P → HoldsLongest P c (getD table c 0)
-
 -- the number of rounds that demand 3 asks for
 abbrev pub enoughRounds : Plan → ℕ
 enoughRounds P = cells P * (P .horizon + P .largest + 1) + 1
+
+-- "broken exactly when one makes the first alarm wait for itself; on kept every cell holds the longest wait any derivation reaches, 0 where none does":
+-- an answer of kept or broken says so whatever the limit, and with enough rounds there is one
+pub record Demand3 (P : Plan) (limit : ℕ) (o : Outcome) (table : List ℕ) : Type 0 where
+  pub broken-then : IsBroken o → SelfWait P
+  pub kept-then : IsKept o → SelfWait P → ⊥
+  pub longest-waits : IsKept o → (c : ℕ) → c < cells P → HoldsLongest P c (getD table c 0)
+  pub broken-if : enoughRounds P ≤ limit → SelfWait P → IsBroken o
+  pub otherwise-kept : enoughRounds P ≤ limit → (SelfWait P → ⊥) → IsKept o

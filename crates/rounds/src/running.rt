@@ -22,7 +22,7 @@ ghost use Rattle.filling.specs.Lent.{AtMost};
 ghost use Rattle.rounds.specs.Ready.{Ready, RoomFrom, Turned, Ran};
 ghost use Rattle.rounds.specs.Rounds.{same, anyAbove};
 ghost use Rattle.rounds.specs.Outcomes.{kept, broken, pick, outcomeOf, checkOutcome, checkTable};
-ghost use Rattle.rounds.specs.Demand.{Demand3, enoughRounds};
+ghost use Rattle.rounds.specs.Demand.{Demand3};
 
 // Whether the round from the first table to the second stops the rounds.
 fn stops(first: &[u32], second: &[u32], points: usize, width: usize) -> bool
@@ -119,7 +119,7 @@ pub fn check(plan: &[u8], first: &mut [u32], second: &mut [u32], limit: u32) -> 
     ensures { λ r. ⌜ outcomeOf r ≡ checkOutcome (now (plan .entry)) (now (first .entry)) (now (second .entry)) limit ⌝ }
     ensures { λ _. ⌜ now (first .exit) ≡ checkTable (now (plan .entry)) (now (first .entry)) (now (second .entry)) limit (now (first .entry)) ⌝ }
     ensures { λ _. ⌜ now (second .exit) ≡ checkTable (now (plan .entry)) (now (first .entry)) (now (second .entry)) limit (now (second .entry)) ⌝ }
-    ensures { λ r. ⌜ (Accepted (now (plan .entry)) → cellsOf (planOf (now (plan .entry))) ≤ length (now (first .entry)) → cellsOf (planOf (now (plan .entry))) ≤ length (now (second .entry)) → enoughRounds (planOf (now (plan .entry))) ≤ limit → Demand3 (planOf (now (plan .entry))) (outcomeOf r) (now (first .exit))) ⌝ }
+    ensures { λ r. ⌜ (Accepted (now (plan .entry)) → cellsOf (planOf (now (plan .entry))) ≤ length (now (first .entry)) → cellsOf (planOf (now (plan .entry))) ≤ length (now (second .entry)) → Demand3 (planOf (now (plan .entry))) limit (outcomeOf r) (now (first .exit))) ⌝ }
 {
     let number = refusal(plan);
     if number != 0 {
