@@ -265,10 +265,12 @@ mod rules {
         }
 
         // Rules 4 and 6, by their row: the bits of the mask are removed with a line of the other point.
+        // The mask is a run of bits, and low the lowest of them.
         #[derive(Clone, Copy)]
         pub struct Remover {
             pub other: usize,
             pub mask: usize,
+            pub low: usize,
             pub add: u64,
         }
 
@@ -329,11 +331,9 @@ mod rules {
             weighed(wait, by.up, by.down)
         }
 
+        // The other line's place has no bit of the mask: callers pass over places that have one.
         pub fn removed(by: Remover, wait: u64, place: usize, other: u64) -> u64 {
             if !is_line(place, other) {
-                return 0;
-            }
-            if touches(by.mask, place) {
                 return 0;
             }
             lesser(wait, other + by.add)
@@ -387,7 +387,7 @@ mod filling {
             }
         }
 
-        // Rules 4 and 6, from one line (its place cleared) and the other point's cell at c.
+        // Rules 4 and 6, from one line (its place cleared) and the other point's cell at c, a place that has no bit of the mask.
         fn remove_at(
             first: &[u32],
             part: &mut [u32],
@@ -397,14 +397,28 @@ mod filling {
             wait: u64,
             c: usize,
         ) {
-            if touches(by.mask, c) {
-                return;
-            }
             let w = removed(by, wait, c, widened(first[base + c]));
             raise(part, place | c, w);
         }
 
+        // The same from the other point's cells from lo on and below hi.
+        fn remove_run(
+            first: &[u32],
+            part: &mut [u32],
+            base: usize,
+            by: Remover,
+            place: usize,
+            wait: u64,
+            lo: usize,
+            hi: usize,
+        ) {
+            for c in lo..hi {
+                remove_at(first, part, base, by, place, wait, c);
+            }
+        }
+
         // Rules 4 and 6, from one line (its place cleared) and all cells of the other point.
+        // In each block only the first places have no bit of the mask: the others give nothing, and are passed over.
         fn remove_one(
             first: &[u32],
             part: &mut [u32],
@@ -414,8 +428,11 @@ mod filling {
             wait: u64,
         ) {
             let base = by.other * width;
-            for c in 0..width {
-                remove_at(first, part, base, by, place, wait, c);
+            let block = by.mask + by.low;
+            let mut start = 0;
+            while start < width {
+                remove_run(first, part, base, by, place, wait, start, start + by.low);
+                start += block;
             }
         }
 
@@ -748,6 +765,11 @@ mod filling {
             3 << (2 * j)
         }
 
+        // The lower of a digit's two bits.
+        fn digit_bit(j: usize) -> usize {
+            1 << (2 * j)
+        }
+
         // Rule 1 of edge i.
         pub fn edge_row(plan: &[u8], i: usize) -> Propagator {
             Propagator {
@@ -783,9 +805,11 @@ mod filling {
 
         // Rule 4 of link i.
         pub fn letter_row(plan: &[u8], i: usize) -> Remover {
+            let bit = link_bit(plan, i);
             Remover {
                 other: link_activation(plan, i),
-                mask: link_bit(plan, i),
+                mask: bit,
+                low: bit,
                 add: link_least(plan, i),
             }
         }
@@ -795,6 +819,7 @@ mod filling {
             Remover {
                 other: observer(plan, j),
                 mask: digit_mask(j),
+                low: digit_bit(j),
                 add: 0,
             }
         }

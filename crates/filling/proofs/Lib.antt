@@ -1,2 +1,3 @@
 pub mod Laying
 pub mod Lending
+pub mod Runs

@@ -13,7 +13,7 @@ use plan::propositions;
 use rules::Propagator;
 use rules::Remover;
 ghost use mathlib.Core.Path.{_≡_};
-ghost use Prim.Native.Nat.{_<_, _≤_};
+ghost use Prim.Native.Nat.{_^_, _<_, _≤_};
 ghost use Rattle.plan.specs.Layout.{planOf};
 ghost use Rattle.plan.specs.Refusal.{Accepted};
 ghost use Rattle.rules.specs.Shapes as shapes;
@@ -38,6 +38,14 @@ pub fn digit_mask(j: usize) -> usize
     ensures { λ r. ⌜ r ≡ shapes.digitMask j ⌝ }
 {
     3 << (2 * j)
+}
+
+// The lower of a digit's two bits.
+fn digit_bit(j: usize) -> usize
+    requires { ⌜ j < 4 ⌝ }
+    ensures { λ r. ⌜ r ≡ 4 ^ j ⌝ }
+{
+    1 << (2 * j)
 }
 
 // Rule 1 of edge i.
@@ -85,11 +93,13 @@ pub fn upper_row(plan: &[u8], i: usize) -> Propagator
 // Rule 4 of link i.
 pub fn letter_row(plan: &[u8], i: usize) -> Remover
     requires { ⌜ Accepted (now plan) × (i < planOf (now plan) .links) ⌝ }
-    ensures { λ r. ⌜ (r .other ≡ planOf (now (plan .entry)) .activation i) × (r .mask ≡ shapes.linkBit (planOf (now (plan .entry)) .propositions) i) × (r .add ≡ planOf (now (plan .entry)) .least i) × (r .add < 65536) ⌝ }
+    ensures { λ r. ⌜ (r .other ≡ planOf (now (plan .entry)) .activation i) × (r .mask ≡ shapes.linkBit (planOf (now (plan .entry)) .propositions) i) × (r .low ≡ shapes.linkBit (planOf (now (plan .entry)) .propositions) i) × (r .add ≡ planOf (now (plan .entry)) .least i) × (r .add < 65536) ⌝ }
 {
+    let bit = link_bit(plan, i);
     Remover {
         other: link_activation(plan, i),
-        mask: link_bit(plan, i),
+        mask: bit,
+        low: bit,
         add: link_least(plan, i),
     }
 }
@@ -97,11 +107,12 @@ pub fn letter_row(plan: &[u8], i: usize) -> Remover
 // Rule 6 of proposition j. Nothing is added, so a starting line of the observing point gives wait 0, which is nothing.
 pub fn literal_row(plan: &[u8], j: usize) -> Remover
     requires { ⌜ Accepted (now plan) × (j < planOf (now plan) .propositions) ⌝ }
-    ensures { λ r. ⌜ (r .other ≡ planOf (now (plan .entry)) .observer j) × (r .mask ≡ shapes.digitMask j) × (r .add ≡ 0) ⌝ }
+    ensures { λ r. ⌜ (r .other ≡ planOf (now (plan .entry)) .observer j) × (r .mask ≡ shapes.digitMask j) × (r .low ≡ 4 ^ j) × (r .add ≡ 0) ⌝ }
 {
     Remover {
         other: observer(plan, j),
         mask: digit_mask(j),
+        low: digit_bit(j),
         add: 0,
     }
 }

@@ -4,7 +4,7 @@ use mathlib.Core.Path.{_≡_, refl, sym, ap, subst, _∙_}
 use mathlib.Core.Bool.{Bool, true, false}
 use mathlib.Core.Logic.{_⊎_, inl, inr}
 use mathlib.Core.List.{List}
-use Prim.Native.Nat.{ℕ, zero, suc, _+_, _*_, _≤_, _<_, max}
+use Prim.Native.Nat.{ℕ, zero, suc, _+_, _-_, _*_, _≤_, _<_, max}
 use native.Mathlib.Nat.{le-refl, le-trans, le-antisymm, max-eq-left, max-eq-right, add-zero, add-suc, zero-mul, suc-mul}
 use native.Mathlib.Decide.{ℕ-discrete, decLe}
 use native.Mathlib.Numerals.{add-one}
@@ -141,6 +141,12 @@ pub steps-add : (f : ℕ → List ℕ → List ℕ) (m n : ℕ) (A : List ℕ) �
 unfolding steps
 steps-add f m zero A = rw add-zero
 steps-add f m (suc n) A = ap (f (m + n)) (steps-add f m n A) ∙ rw add-suc
+
+-- steps that change nothing are passed over
+pub steps-pass : (f : ℕ → List ℕ → List ℕ) (lo hi : ℕ) → lo ≤ hi → ((c : ℕ) → lo ≤ c → c < hi → (A : List ℕ) → f c A ≡ A) → (A : List ℕ) → steps f hi A ≡ steps f lo A
+steps-pass f lo hi h idle A =
+    let e : lo + (hi - lo) ≡ hi = omega arith in
+    rw e at (sym (steps-add f lo (hi - lo) A)) ∙ steps-idle (λ i. f (lo + i)) (hi - lo) (λ i k B. idle (lo + i) (omega arith) (omega arith) B) (steps f lo A)
 
 pub steps-nested : (f : ℕ → List ℕ → List ℕ) (a b : ℕ) (A : List ℕ) → steps (λ s. steps (λ q. f (s * b + q)) b) a A ≡ steps f (a * b) A
 unfolding steps

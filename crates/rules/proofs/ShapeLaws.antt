@@ -62,7 +62,7 @@ module _ (mask add w u v : ℕ) where
   unfolding removed
   removed-none e = rw e
 
-  pub removed-touches : touches mask u ≡ true → 0 ≡ removed mask add w u v
+  removed-touches : touches mask u ≡ true → 0 ≡ removed mask add w u v
   unfolding removed
   removed-touches e = rw (and-no (isLine u v) (not (touches mask u)) (ap not e))
 
@@ -107,6 +107,12 @@ turn f t B C D e g = g ∙ ap (f t) e ∙ steps-more f t B
 
 pub done : (f : ℕ → List ℕ → List ℕ) (t n : ℕ) (B C : List ℕ) → C ≡ steps f t B → t ≡ n → C ≡ steps f n B
 done f t n B C e h = e ∙ ap (λ (k : ℕ). steps f k B) h
+
+-- a turn of a loop that begins at lo
+pub turn-from : (f : ℕ → List ℕ → List ℕ) (lo t : ℕ) (B C D : List ℕ) → lo ≤ t → C ≡ steps (λ i. f (lo + i)) (t - lo) B → D ≡ f t C → D ≡ steps (λ i. f (lo + i)) (t + 1 - lo) B
+turn-from f lo t B C D h e g =
+    let a : t ≡ lo + (t - lo) = omega arith in
+    done _ (t - lo + 1) (t + 1 - lo) B D (turn (λ i. f (lo + i)) (t - lo) B C D e (g ∙ ap (λ (k : ℕ). f k C) a)) (omega arith)
 
 pub propagate-step : (m : ℕ) (A : List ℕ) (mask from avoid add up down t v w : ℕ) (C D : List ℕ) → w ≡ getD A (from * m + t) 0 → v ≡ propagated mask avoid add up down t w → D ≡ raiseCell (bitOr t add) v C → D ≡ propagateStep m A mask from avoid add up down t C
 unfolding propagateStep

@@ -1,6 +1,7 @@
 // What the rules give at one place, or two, in the three shapes that serve filling and finding.
 use plan::is_plain;
 ghost use mathlib.Core.Path.{_≡_};
+ghost use mathlib.Core.Bool.{false};
 ghost use Prim.Native.Nat.{ℕ, _+_, _<_, _≤_, min};
 ghost use Rattle.plan.specs.Label.{Marks};
 ghost use Rattle.rules.specs.Shapes as shapes;
@@ -16,9 +17,11 @@ pub struct Propagator {
 }
 
 // Rules 4 and 6, by their row: the bits of the mask are removed with a line of the other point.
+// The mask is a run of bits, and low the lowest of them.
 pub struct Remover {
     pub other: usize,
     pub mask: usize,
+    pub low: usize,
     pub add: u64,
 }
 
@@ -86,14 +89,12 @@ pub fn propagated(marks: &[u8; 256], by: Propagator, mask: usize, place: usize, 
     weighed(wait, by.up, by.down)
 }
 
+// The other line's place has no bit of the mask: callers pass over places that have one.
 pub fn removed(by: Remover, wait: u64, place: usize, other: u64) -> u64
-    requires { ⌜ (other < 4611686018427387904) × (by .add < 4611686018427387904) ⌝ }
+    requires { ⌜ (other < 4611686018427387904) × (by .add < 4611686018427387904) × (shapes.touches (by .mask) place ≡ false) ⌝ }
     ensures { λ r. ⌜ r ≡ shapes.removed (by .mask) (by .add) wait place other ⌝ }
 {
     if !is_line(place, other) {
-        return 0;
-    }
-    if touches(by.mask, place) {
         return 0;
     }
     lesser(wait, other + by.add)

@@ -1,19 +1,13 @@
--- A place with a bit of the mask gives nothing, and any other is raised as the step says.
-use mathlib.Core.Path.{refl, sym, ap, _∙_}
+-- The place joined is raised as the step says.
+use mathlib.Core.Path.{ap, _∙_}
 use Prim.Native.Nat.{ℕ, _+_, _≤_}
 use native.Mathlib.Omega.{arith}
 use lib.ListN.{getD}
 use denote.Ref.{now}
-use Rattle.rules.proofs.ShapeLaws.{removed-le, remove-pass, remove-step}
+use Rattle.rules.proofs.ShapeLaws.{removed-le, remove-step}
 use borrow.Author.Needs.{needs}
 use Rattle.filling.proofs.cells.remove_at.Statement.{statement}
 use Rattle.filling.proofs.cells.remove_at.Tie as tie
-
-touches-requires : tie.Need-touches-requires
-touches-requires c κs = search needs
-
-returns : tie.Need-returns
-returns c = (λ m e. remove-pass _ _ _ _ _ _ _ _ _ (sym (c .before .touches .ensures) ∙ c .if1 .taken), refl)
 
 add-widened : tie.Need-add-widened
 add-widened c = search needs
@@ -32,15 +26,15 @@ removed-requires c κs = search needs
 
 raise-requires : tie.Need-raise-requires
 raise-requires c κs =
-    let v : c .before .removed .result ≤ c .before .before .before .before .before .before .before .before .args .wait = rw (c .before .removed .ensures) (removed-le _ _ _ _ _) in
+    let v : c .before .removed .result ≤ c .before .before .before .before .before .before .args .wait = rw (c .before .removed .ensures) (removed-le _ _ _ _ _) in
     (omega arith, omega (arith, v))
 
 same-length : tie.Need-same-length
 same-length c = search needs
 
-returns-2 : tie.Need-returns-2
-returns-2 c =
-    let s = c .before .before .before .before .before .before .before .before .before .before .before .args in
+returns : tie.Need-returns
+returns c =
+    let s = c .before .before .before .before .before .before .before .before .before .args in
     let r = c .before .before .raise .ensures in
     (λ m e. remove-step m (now (s .first)) (s .by .other) (s .by .mask) (s .by .add) (s .place) (s .wait) (s .c) _ _ _ _ (c .before .before .before .before .before .widened .ensures .0 ∙ ap (λ (x : ℕ). getD (now (s .first)) (x + s .c) 0) e) (c .before .before .before .before .removed .ensures) (r .0), r .1)
 
@@ -48,8 +42,6 @@ pub remove-at-spec : {M : Type 1} → statement M
 remove-at-spec =
     tie.close
     (tie.spec
-    touches-requires
-    returns
     add-widened
     mul-widened
     shared-slice-read-widened
@@ -57,4 +49,4 @@ remove-at-spec =
     removed-requires
     raise-requires
     same-length
-    returns-2)
+    returns)

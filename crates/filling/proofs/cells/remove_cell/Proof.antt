@@ -24,7 +24,7 @@ remove-one-requires : tie.Need-remove-one-requires
 remove-one-requires c κs =
     let s = c .before .before .before .before .before .before .before in
     let low : c .before .cleared .result ≤ s .args .place = rw (c .before .cleared .ensures) (cleared-le _ _) in
-    (s .pre .0, s .pre .1, λ u h. s .pre .2 (c .before .cleared .result) u (omega (arith, low)) h, s .pre .4, s .pre .5)
+    (s .pre .0, s .pre .1, λ u h. s .pre .2 (c .before .cleared .result) u (omega (arith, low)) h, s .pre .3, s .pre .5, s .pre .6)
 
 same-length : tie.Need-same-length
 same-length c = search needs

@@ -38,7 +38,7 @@ widened-requires c κs = search needs
 remove-cell-requires : tie.Need-remove-cell-requires Inv-loop μ-loop
 remove-cell-requires c κs =
     let p = c .before .before .before .before .before .before .before .pre in
-    (p .0, omega arith, p .3, omega arith, omega arith, p .4)
+    (p .0, omega arith, p .3, p .4, omega arith, omega arith, p .5)
 
 add-c : tie.Need-add-c Inv-loop μ-loop
 add-c c = omega arith

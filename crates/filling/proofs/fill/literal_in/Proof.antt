@@ -1,9 +1,11 @@
 -- The loop over cells is the proposition's.
 use native.Mathlib.Omega.{arith}
 use denote.Ref.{now}
+use Rattle.plan.specs.Layout.{planOf}
 use Rattle.plan.proofs.Ranges.{accepted-well-formed}
 use Rattle.rules.proofs.ShapeLaws.{remove-by}
 use Rattle.filling.proofs.Lending.{remove-lent}
+use Rattle.filling.proofs.Runs.{digit-run}
 use borrow.Author.Needs.{needs}
 use Rattle.filling.proofs.fill.literal_in.Statement.{statement}
 use Rattle.filling.proofs.fill.literal_in.Tie as tie
@@ -15,7 +17,7 @@ remove-in-requires : tie.Need-remove-in-requires
 remove-in-requires c κs =
     let s = c .before .before .before .before .before in
     let k = c .before .literal-row .ensures in
-    remove-lent _ _ _ _ _ _ _ _ (s .pre .0) (s .pre .1) (k .0) (accepted-well-formed (now (s .args .plan)) (s .pre .0 .accepted) .observer-in _ (s .pre .2) .1) (s .pre .3) (omega (arith, k .2))
+    remove-lent _ _ _ _ _ _ _ _ _ _ _ _ (s .pre .0) (s .pre .1) (k .0) (accepted-well-formed (now (s .args .plan)) (s .pre .0 .accepted) .observer-in _ (s .pre .2) .1) (s .pre .3) (k .1) (k .2) (digit-run (planOf (now (s .args .plan))) _ (s .pre .2)) (omega (arith, k .3))
 
 same-length : tie.Need-same-length
 same-length c = search needs
@@ -24,7 +26,7 @@ returns : tie.Need-returns
 returns c =
     let k = c .before .before .before .before .literal-row .ensures in
     let r = c .before .before .remove-in .ensures in
-    (remove-by _ _ _ _ _ _ _ _ _ _ _ _ (c .before .before .before .before .before .before .before .before .pre .1) (k .0) (k .1) (k .2) (r .0), r .1)
+    (remove-by _ _ _ _ _ _ _ _ _ _ _ _ (c .before .before .before .before .before .before .before .before .pre .1) (k .0) (k .1) (k .3) (r .0), r .1)
 
 pub literal-in-spec : {M : Type 1} → statement M
 literal-in-spec = tie.close (tie.spec literal-row-requires remove-in-requires same-length returns)

@@ -5,11 +5,11 @@ use borrow.Author.Needs.{needs}
 use Rattle.filling.proofs.rows.letter_row.Statement.{statement}
 use Rattle.filling.proofs.rows.letter_row.Tie as tie
 
-link-activation-requires : tie.Need-link-activation-requires
-link-activation-requires c κs = link-byte (now (c .before .args .plan)) (c .before .pre .0) _ (c .before .pre .1)
-
 link-bit-requires : tie.Need-link-bit-requires
 link-bit-requires c κs = search needs
+
+link-activation-requires : tie.Need-link-activation-requires
+link-activation-requires c κs = link-byte (now (c .before .before .args .plan)) (c .before .before .pre .0) _ (c .before .before .pre .1)
 
 link-least-requires : tie.Need-link-least-requires
 link-least-requires c κs = link-byte (now (c .before .before .before .args .plan)) (c .before .before .before .pre .0) _ (c .before .before .before .pre .1)
@@ -19,4 +19,4 @@ returns c = search needs
 
 pub letter-row-spec : {M : Type 1} → statement M
 letter-row-spec =
-    tie.close (tie.spec link-activation-requires link-bit-requires link-least-requires returns)
+    tie.close (tie.spec link-bit-requires link-activation-requires link-least-requires returns)

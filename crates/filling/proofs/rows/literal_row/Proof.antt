@@ -12,8 +12,11 @@ observer-requires c κs = proposition-byte (now (c .before .args .plan)) (c .bef
 digit-mask-requires : tie.Need-digit-mask-requires
 digit-mask-requires c κs = omega (arith, accepted-bounded (now (c .before .before .args .plan)) (c .before .before .pre .0) .propositions-in)
 
+digit-bit-requires : tie.Need-digit-bit-requires
+digit-bit-requires c κs = omega (arith, accepted-bounded (now (c .before .before .before .args .plan)) (c .before .before .before .pre .0) .propositions-in)
+
 returns : tie.Need-returns
 returns c = search needs
 
 pub literal-row-spec : {M : Type 1} → statement M
-literal-row-spec = tie.close (tie.spec observer-requires digit-mask-requires returns)
+literal-row-spec = tie.close (tie.spec observer-requires digit-mask-requires digit-bit-requires returns)

@@ -1,7 +1,7 @@
 -- Each way out is one branch of the definition.
 use mathlib.Core.Path.{sym, _∙_}
 use borrow.Author.Tests.{not-true, not-false}
-use Rattle.rules.proofs.ShapeLaws.{removed-none, removed-touches, removed-goes}
+use Rattle.rules.proofs.ShapeLaws.{removed-none, removed-goes}
 use borrow.Author.Needs.{needs}
 use Rattle.rules.proofs.shapes.removed.Statement.{statement}
 use Rattle.rules.proofs.shapes.removed.Tie as tie
@@ -12,24 +12,18 @@ is-line-requires c κs = search needs
 returns : tie.Need-returns
 returns c = removed-none _ _ _ _ _ (sym (c .before .is-line .ensures) ∙ not-true _ (c .if1 .taken))
 
-touches-requires : tie.Need-touches-requires
-touches-requires c κs = search needs
-
-returns-2 : tie.Need-returns-2
-returns-2 c = removed-touches _ _ _ _ _ (sym (c .before .touches .ensures) ∙ c .if2 .taken)
-
 add-lesser : tie.Need-add-lesser
 add-lesser c = search needs
 
 lesser-requires : tie.Need-lesser-requires
 lesser-requires c κs = search needs
 
-returns-3 : tie.Need-returns-3
-returns-3 c =
+returns-2 : tie.Need-returns-2
+returns-2 c =
     c .lesser .ensures
     ∙ removed-goes _ _ _ _ _
-    (sym (c .before .before .before .before .before .is-line .ensures) ∙ not-false _ (c .before .before .before .before .if1 .left))
-    (sym (c .before .before .before .touches .ensures) ∙ c .before .before .if2 .left)
+    (sym (c .before .before .before .is-line .ensures) ∙ not-false _ (c .before .before .if1 .left))
+    (c .before .before .before .before .pre .2)
 
 pub removed-spec : {M : Type 1} → statement M
 removed-spec =
@@ -37,8 +31,6 @@ removed-spec =
     (tie.spec
     is-line-requires
     returns
-    touches-requires
-    returns-2
     add-lesser
     lesser-requires
-    returns-3)
+    returns-2)
