@@ -13,7 +13,7 @@ use plan::propositions;
 use rules::Propagator;
 use rules::Remover;
 ghost use mathlib.Core.Path.{_≡_};
-ghost use Prim.Native.Nat.{_^_, _<_, _≤_};
+ghost use Prim.Native.Nat.{_^_, _<_};
 ghost use Rattle.plan.specs.Layout.{planOf};
 ghost use Rattle.plan.specs.Refusal.{Accepted};
 ghost use Rattle.rules.specs.Shapes as shapes;

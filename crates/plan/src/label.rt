@@ -1,6 +1,6 @@
 // Labels in code: a label of at most four digits is a number below 256, and joining two is `|`.
 ghost use mathlib.Core.Path.{_≡_};
-ghost use Prim.Native.Nat.{ℕ, _<_, _≤_, _^_};
+ghost use Prim.Native.Nat.{ℕ, _<_, _^_};
 ghost use Rattle.plan.specs.Label.{digit as digitOf, join as joinOf, plain, clearDigit, Marks};
 
 // Whether a label byte is plain, by the table of marks, lent so that loops do not rebuild it.

@@ -19,12 +19,10 @@ use plan::plain_marks;
 use plan::points;
 use plan::propositions;
 ghost use mathlib.Core.Path.{_≡_};
-ghost use mathlib.Core.Bool.{Bool, true, false, not, _&&_};
-ghost use Prim.Native.Nat.{ℕ, _+_, _*_, _^_, _<_, _≤_};
-ghost use lib.Dec.{ltb, leb, eqb};
-ghost use lib.ListN.{length};
-ghost use Rattle.plan.specs.Label.{plain, Marks};
-ghost use Rattle.plan.specs.Layout.{planOf, lengthFor, spareAt};
+ghost use mathlib.Core.Bool.{true, false};
+ghost use Prim.Native.Nat.{_+_, _*_, _<_, _≤_};
+ghost use Rattle.plan.specs.Label.{Marks};
+ghost use Rattle.plan.specs.Layout.{planOf, lengthFor};
 ghost use Rattle.plan.specs.Refusal.{every, differs, sizesFit, observerFits, linkEndsFit, durationFits, linkFits, edgeEndsFit, labelFits, edgeFits, refusal as refusalOf};
 
 // The numbers of document 01's table.

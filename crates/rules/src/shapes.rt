@@ -2,7 +2,7 @@
 use plan::is_plain;
 ghost use mathlib.Core.Path.{_≡_};
 ghost use mathlib.Core.Bool.{false};
-ghost use Prim.Native.Nat.{ℕ, _+_, _<_, _≤_, min};
+ghost use Prim.Native.Nat.{_+_, _<_, min};
 ghost use Rattle.plan.specs.Label.{Marks};
 ghost use Rattle.rules.specs.Shapes as shapes;
 
