@@ -1057,6 +1057,218 @@ mod refusals {
     }
 }
 
+// The points that a point's next cells rest on.
+mod sources {
+    pub use self::points::find_sources;
+
+    // Sets of points, a bit for each: from which points' lines the rules give a line of a point.
+    mod points {
+        use super::super::plan::edge_from;
+        use super::super::plan::edge_to;
+        use super::super::plan::edges;
+        use super::super::plan::link_activation;
+        use super::super::plan::link_finish;
+        use super::super::plan::links;
+        use super::super::plan::observer;
+        use super::super::plan::points;
+        use super::super::plan::propositions;
+
+        // All points: a horizon edge runs to each of them from the first alarm.
+        const ALL: usize = 4294967295;
+
+        fn bit(x: usize) -> usize {
+            1 << x
+        }
+
+        fn of_edge(plan: &[u8], x: usize, i: usize) -> usize {
+            if edge_from(plan, i) != x {
+                return 0;
+            }
+            bit(edge_to(plan, i))
+        }
+
+        fn of_link(plan: &[u8], x: usize, i: usize) -> usize {
+            let activation = link_activation(plan, i);
+            let both = bit(x) | bit(activation);
+            if activation != x {
+                return both;
+            }
+            both | bit(link_finish(plan, i))
+        }
+
+        fn of_proposition(plan: &[u8], x: usize, j: usize) -> usize {
+            bit(x) | bit(observer(plan, j))
+        }
+
+        fn of_edges(plan: &[u8], x: usize) -> usize {
+            let n = edges(plan);
+            let mut set = 0;
+            for i in 0..n {
+                set = set | of_edge(plan, x, i);
+            }
+            set
+        }
+
+        fn of_links(plan: &[u8], x: usize) -> usize {
+            let n = links(plan);
+            let mut set = 0;
+            for i in 0..n {
+                set = set | of_link(plan, x, i);
+            }
+            set
+        }
+
+        fn of_propositions(plan: &[u8], x: usize) -> usize {
+            let n = propositions(plan);
+            let mut set = 0;
+            for j in 0..n {
+                set = set | of_proposition(plan, x, j);
+            }
+            set
+        }
+
+        fn sources(plan: &[u8], x: usize) -> usize {
+            let rows = of_edges(plan, x) | of_links(plan, x) | of_propositions(plan, x);
+            if x != 0 {
+                return rows;
+            }
+            rows | ALL
+        }
+
+        // The sources of every point.
+        pub fn find_sources(plan: &[u8], sets: &mut [usize]) {
+            let n = points(plan);
+            for x in 0..n {
+                sets[x] = sources(plan, x);
+            }
+        }
+    }
+}
+
+// Lent tables: their first cells, and one round.
+mod tables {
+    pub use self::cells::clear_cells;
+    pub use self::cells::copy_cells;
+    pub use self::cells::first_alarm_waits;
+    pub use self::cells::same_cells;
+    pub use self::cells::settle;
+    pub use self::making::next_round;
+
+    // The first cells of lent tables: what two of them have in common, whether one is above 0, copies, zeros.
+    mod cells {
+        // Whether the first cells of two tables agree, point by point up to the first cell that differs.
+        pub fn same_cells(first: &[u32], second: &[u32], points: usize, width: usize) -> bool {
+            let mut agree = true;
+            'walk: for x in 0..points {
+                let start = x * width;
+                for t in 0..width {
+                    if first[start + t] != second[start + t] {
+                        agree = false;
+                        break 'walk;
+                    }
+                }
+            }
+            agree
+        }
+
+        // Whether one of the first n cells, those of the first alarm, is above 0.
+        pub fn first_alarm_waits(table: &[u32], n: usize) -> bool {
+            for c in 0..n {
+                if table[c] != 0 {
+                    return true;
+                }
+            }
+            false
+        }
+
+        // The first n cells of one table into another.
+        pub fn copy_cells(source: &[u32], target: &mut [u32], n: usize) {
+            for c in 0..n {
+                target[c] = source[c];
+            }
+        }
+
+        // The first n cells at 0.
+        pub fn clear_cells(table: &mut [u32], n: usize) {
+            for c in 0..n {
+                table[c] = 0;
+            }
+        }
+
+        // The cells of point x from one table to another, unless they agree: then nothing, else the point's bit.
+        fn settle_point(source: &[u32], target: &mut [u32], width: usize, x: usize) -> usize {
+            let start = x * width;
+            if same_cells(&source[start..], &target[start..], 1, width) {
+                return 0;
+            }
+            copy_cells(&source[start..], &mut target[start..], width);
+            1 << x
+        }
+
+        // The cells of all points from one table to another; the set of the points whose cells differed.
+        pub fn settle(source: &[u32], target: &mut [u32], points: usize, width: usize) -> usize {
+            let mut changed = 0;
+            for x in 0..points {
+                changed = changed | settle_point(source, target, width, x);
+            }
+            changed
+        }
+    }
+
+    // One round from a lent table to another.
+    mod making {
+        use super::super::filling::fill_point;
+        use super::super::plan::cells;
+        use super::super::plan::points;
+        use super::super::plan::width as point_width;
+
+        // Fills the part of point x, which has the point's cells, unless none of its sources changed: it then keeps them.
+        fn refill_point(
+            plan: &[u8],
+            marks: &[u8; 256],
+            horizon: u64,
+            first: &[u32],
+            part: &mut [u32],
+            x: usize,
+            sources: usize,
+            changed: usize,
+        ) {
+            if sources & changed == 0 {
+                return;
+            }
+            fill_point(plan, marks, horizon, first, part, x);
+        }
+
+        // The same round where the second table has the first's cells, and where it is known from which points lines come and which points changed.
+        pub fn next_round(
+            plan: &[u8],
+            marks: &[u8; 256],
+            horizon: u64,
+            first: &[u32],
+            second: &mut [u32],
+            sources: &[usize],
+            changed: usize,
+        ) {
+            let n = points(plan);
+            let width = point_width(plan);
+            let end = cells(plan);
+            for x in 0..n {
+                let start = x * width;
+                refill_point(
+                    plan,
+                    marks,
+                    horizon,
+                    &first[..end],
+                    &mut second[start..],
+                    x,
+                    sources[x],
+                    changed,
+                );
+            }
+        }
+    }
+}
+
 // Rounds and the check.
 mod rounds {
     pub use self::running::check;
@@ -1077,12 +1289,17 @@ mod rounds {
         use super::super::plan::points;
         use super::super::plan::width as point_width;
         use super::super::refusals::refusal;
-        use super::tables::clear_cells;
-        use super::tables::copy_cells;
-        use super::tables::first_alarm_waits;
-        use super::tables::round;
-        use super::tables::same_cells;
+        use super::super::sources::find_sources;
+        use super::super::tables::clear_cells;
+        use super::super::tables::copy_cells;
+        use super::super::tables::first_alarm_waits;
+        use super::super::tables::next_round;
+        use super::super::tables::same_cells;
+        use super::super::tables::settle;
         use super::Answer;
+
+        // All points: before the first round nothing is known of any.
+        const ALL: usize = 4294967295;
 
         // Whether the round from the first table to the second stops the rounds.
         fn stops(first: &[u32], second: &[u32], points: usize, width: usize) -> bool {
@@ -1092,21 +1309,30 @@ mod rounds {
             same_cells(first, second, points, width)
         }
 
-        // One round of both tables, and whether it stops the rounds.
+        // A round made: whether it stops the rounds, and a set that has all points that it changed.
+        pub struct MadeRound {
+            pub stops: bool,
+            pub changed: usize,
+        }
+
+        // One round of both tables, which have the same cells before it and after it.
         fn turn(
             plan: &[u8],
             marks: &[u8; 256],
             horizon: u64,
             first: &mut [u32],
             second: &mut [u32],
-        ) -> bool {
+            sources: &[usize],
+            changed: usize,
+        ) -> MadeRound {
             let n = points(plan);
             let width = point_width(plan);
-            let end = cells(plan);
-            round(plan, marks, horizon, first, second);
+            next_round(plan, marks, horizon, first, second, sources, changed);
             let ended = stops(first, second, n, width);
-            copy_cells(second, first, end);
-            ended
+            MadeRound {
+                stops: ended,
+                changed: settle(second, first, n, width),
+            }
         }
 
         // The answer of the round that stopped.
@@ -1127,12 +1353,17 @@ mod rounds {
             limit: u32,
         ) -> Answer {
             let width = point_width(plan);
+            let mut sources = [0usize; 32];
+            find_sources(plan, &mut sources);
+            let mut changed = ALL;
             let mut made = 0;
             while made < limit {
                 made += 1;
-                if turn(plan, marks, horizon, first, second) {
+                let turned = turn(plan, marks, horizon, first, second, &sources, changed);
+                if turned.stops {
                     return ending(second, width, made);
                 }
+                changed = turned.changed;
             }
             Answer::Spent(limit)
         }
@@ -1174,70 +1405,6 @@ mod rounds {
                 return Answer::Refused(6);
             }
             checked(plan, first, second, limit)
-        }
-    }
-
-    // Two lent tables: one round from the first to the second, and what a round ends with.
-    mod tables {
-        use super::super::filling::fill_point;
-        use super::super::plan::cells;
-        use super::super::plan::points;
-        use super::super::plan::width as point_width;
-
-        // One round: each point gets its part of the second table, which starts at the point's first cell.
-        pub fn round(
-            plan: &[u8],
-            marks: &[u8; 256],
-            horizon: u64,
-            first: &[u32],
-            second: &mut [u32],
-        ) {
-            let n = points(plan);
-            let width = point_width(plan);
-            let end = cells(plan);
-            for x in 0..n {
-                let start = x * width;
-                fill_point(plan, marks, horizon, &first[..end], &mut second[start..], x);
-            }
-        }
-
-        // Whether the first cells of two tables agree, point by point up to the first cell that differs.
-        pub fn same_cells(first: &[u32], second: &[u32], points: usize, width: usize) -> bool {
-            let mut agree = true;
-            'walk: for x in 0..points {
-                let start = x * width;
-                for t in 0..width {
-                    if first[start + t] != second[start + t] {
-                        agree = false;
-                        break 'walk;
-                    }
-                }
-            }
-            agree
-        }
-
-        // Whether one of the first n cells, those of the first alarm, is above 0.
-        pub fn first_alarm_waits(table: &[u32], n: usize) -> bool {
-            for c in 0..n {
-                if table[c] != 0 {
-                    return true;
-                }
-            }
-            false
-        }
-
-        // The first n cells of one table into another.
-        pub fn copy_cells(source: &[u32], target: &mut [u32], n: usize) {
-            for c in 0..n {
-                target[c] = source[c];
-            }
-        }
-
-        // The first n cells at 0.
-        pub fn clear_cells(table: &mut [u32], n: usize) {
-            for c in 0..n {
-                table[c] = 0;
-            }
         }
     }
 }

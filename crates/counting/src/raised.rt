@@ -2,9 +2,9 @@
 use plan::cells;
 use plan::horizon as horizon_of;
 use plan::plain_marks;
-use rounds::clear_cells;
-use rounds::copy_cells;
-use rounds::round;
+use tables::clear_cells;
+use tables::copy_cells;
+use tables::round;
 ghost use mathlib.Core.Path.{_≡_};
 ghost use Prim.Native.Nat.{suc, _+_, _≤_, min};
 ghost use lib.ListN.{length};

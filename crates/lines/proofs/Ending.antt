@@ -20,10 +20,11 @@ use Rattle.rules.specs.Lines.{lineAt}
 use Rattle.rules.specs.Derivations.{Given}
 use Rattle.rules.proofs.Next.{Cell, next-is}
 use Rattle.rules.proofs.Sound.{next-cases}
+use Rattle.tables.proofs.Comparing.{some-above}
 use Rattle.rounds.specs.Rounds.{zeros, firstAlarmWaits, roundsTo}
 use Rattle.rounds.specs.Outcomes.{kept, broken, pick, ended, endTable, runOutcome, runTable}
 use Rattle.rounds.proofs.Bound.{quiet-no-line, given-plain}
-use Rattle.rounds.proofs.Stopping.{some-above, Running, some-stops, ends-broken}
+use Rattle.rounds.proofs.Stopping.{Running, some-stops, ends-broken}
 use Rattle.rounds.proofs.Verdict.{Inv, cell-line, width-le, first-point, inv-table}
 use Rattle.lines.specs.Listed.{table, isRaised, lowestRaised, lastCell}
 use Rattle.lines.specs.Stages.{BreaksIn}

@@ -13,8 +13,8 @@ use Rattle.plan.proofs.Ranges.{accepted-well-formed, accepted-bounded}
 use Rattle.rules.specs.Tables.{next}
 use Rattle.rules.proofs.Next.{next-is}
 use Rattle.filling.specs.Lent.{AtMost, laidOver}
+use Rattle.tables.specs.Ready.{Ready}
 use Rattle.rounds.specs.Rounds.{zeros}
-use Rattle.rounds.specs.Ready.{Ready}
 use Rattle.rounds.proofs.Stopping.{Running, running-less}
 use Rattle.rounds.proofs.Small.{table-length, table-high}
 use Rattle.rounds.proofs.Turns.{laid-joined}

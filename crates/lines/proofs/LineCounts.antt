@@ -13,8 +13,10 @@ use Rattle.plan.specs.Plan.{Plan, cells}
 use Rattle.plan.proofs.Ranges.{WellFormed}
 use Rattle.rules.specs.Lines.{lineAt}
 use Rattle.rules.proofs.Next.{IsNext, next-is}
-use Rattle.rounds.specs.Rounds.{zeros, same}
-use Rattle.rounds.proofs.Stopping.{eq-same, Running, running-less, tests-fail}
+use Rattle.tables.specs.Cells.{same}
+use Rattle.tables.proofs.Comparing.{eq-same}
+use Rattle.rounds.specs.Rounds.{zeros}
+use Rattle.rounds.proofs.Stopping.{Running, running-less, tests-fail}
 use Rattle.rounds.proofs.Small.{table-length}
 use Rattle.lines.specs.Listed.{table, cellLines, raisedLines, linesTo, listingLines}
 

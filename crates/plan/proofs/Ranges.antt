@@ -212,6 +212,10 @@ module _ (bs : List ℕ) where
       horizon-in = rw horizon-is (mul-le-mul (points-fit bs (planOf bs) fit .1) largest-fit);
     }
 
+    -- few links and propositions, as the functions that count cells ask
+    pub sizes-few : (planOf bs .links ≤ 4) × (planOf bs .propositions ≤ 4)
+    sizes-few = (accepted-bounded .links-in, accepted-bounded .propositions-in)
+
     -- the number of a row or of a proposition fits a byte, as its accessors ask
     pub edge-byte : (i : ℕ) → i < planOf bs .edges → i < 256
     edge-byte i h = omega (arith, accepted-bounded .edges-in)

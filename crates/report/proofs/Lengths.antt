@@ -14,11 +14,11 @@ use Rattle.plan.specs.Plan.{Plan, width, cells}
 use Rattle.plan.specs.Layout.{planOf}
 use Rattle.plan.specs.Refusal.{Accepted, refusal}
 use Rattle.plan.proofs.Ranges.{accepted-well-formed, accepted-bounded}
+use Rattle.tables.proofs.Tabling.{row-within}
 use Rattle.rounds.specs.Rounds.{zeros}
 use Rattle.rounds.specs.Outcomes.{Outcome, kept, broken, spent, refused, pick, runOutcome, runTable, checkOutcome, checkTable}
 use Rattle.rounds.proofs.Stopping.{Stops, Ends, Running, stops-or-runs, ends-at, ends-spent}
 use Rattle.rounds.proofs.Small.{run-length, table-high, table-small}
-use Rattle.rounds.proofs.Tabling.{row-within}
 use Rattle.rounds.proofs.Checking.{check-runs, check-leaves, check-refused, check-short, short-first, short-second, refusal-few}
 use Rattle.report.specs.Text.{joined, numberedLine, firstLine, cellText, pointLine, isRefused, textOf}
 use Rattle.report.specs.Printed.{servingLimit, programOutcome, programTable, printed}

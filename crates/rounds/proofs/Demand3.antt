@@ -11,10 +11,11 @@ use Rattle.plan.specs.Layout.{planOf}
 use Rattle.plan.specs.Refusal.{Accepted}
 use Rattle.plan.proofs.Ranges.{WellFormed, accepted-well-formed, accepted-bounded}
 use Rattle.rules.proofs.Next.{IsNext, next-is}
+use Rattle.tables.proofs.Comparing.{same-eq}
 use Rattle.rounds.specs.Rounds.{tableFrom, zeros, firstAlarmWaits, stopsAt}
 use Rattle.rounds.specs.Outcomes.{runOutcome, runTable}
 use Rattle.rounds.specs.Demand.{Demand3, enoughRounds}
-use Rattle.rounds.proofs.Stopping.{same-eq, Running, running-less, tests-fail, one-holds, Stops, stops-or-runs, ends-broken, ends-kept, ends-spent}
+use Rattle.rounds.proofs.Stopping.{Running, running-less, tests-fail, one-holds, Stops, stops-or-runs, ends-broken, ends-kept, ends-spent}
 use Rattle.rounds.proofs.Sums.{sum, sum-lt, sum-bound}
 use Rattle.rounds.proofs.Verdict.{Inv, inv-table, self-wait, no-self-wait, holds-longest}
 

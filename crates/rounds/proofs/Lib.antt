@@ -4,7 +4,6 @@ pub mod Sums
 pub mod Verdict
 pub mod Demand3
 pub mod Small
-pub mod Tabling
 pub mod Turns
 pub mod Checking
 pub mod Bench

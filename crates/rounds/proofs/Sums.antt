@@ -9,7 +9,7 @@ use native.Mathlib.Omega.{arith}
 use lib.Dec.{eqb}
 use lib.ListN.{length, getD}
 use borrow.Author.Tests.{eqb-false}
-use Rattle.rounds.specs.Rounds.{same}
+use Rattle.tables.specs.Cells.{same}
 
 pub sum : List ℕ → ℕ
 sum [] = 0

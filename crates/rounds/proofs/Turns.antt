@@ -6,19 +6,28 @@ use Prim.Native.Nat.{ℕ, suc, _+_, _*_, _≤_, _<_}
 use native.Mathlib.Nat.{le-refl, le-trans}
 use native.Mathlib.Numerals.{add-one}
 use native.Mathlib.Omega.{arith}
+use lib.Dec.{T as Is}
 use lib.ListN.{length, take, drop, take-append-drop}
 use lib.Seq.{length-take-le, take-at, drop-at, take-take, take-append-le, take-all}
+use Rattle.plan.specs.LinkSet.{contains}
 use Rattle.plan.specs.Plan.{Plan, width, cells}
-use Rattle.plan.proofs.Ranges.{WellFormed}
-use Rattle.rules.specs.Tables.{next}
+use Rattle.plan.specs.Layout.{planOf}
+use Rattle.plan.specs.Refusal.{Accepted}
+use Rattle.plan.proofs.Ranges.{WellFormed, accepted-bounded}
+use Rattle.rules.specs.Tables.{next, part}
 use Rattle.filling.specs.Lent.{AtMost, laidOver}
-use Rattle.rounds.specs.Rounds.{tableFrom, same, anyAbove, firstAlarmWaits, stopsAt}
+use Rattle.sources.specs.Sources.{Settled}
+use Rattle.sources.proofs.Still.{settled-all, settled-next}
+use Rattle.tables.specs.Cells.{same, anyAbove}
+use Rattle.tables.specs.Ready.{Ready, rowOf}
+use Rattle.tables.proofs.Settling.{row-cut}
+use Rattle.tables.proofs.Tabling.{row-within, next-length}
+use Rattle.rounds.specs.Rounds.{tableFrom, firstAlarmWaits, stopsAt}
 use Rattle.rounds.specs.Outcomes.{Outcome, kept, broken, spent, pick, runTable}
-use Rattle.rounds.specs.Ready.{Ready, RoomFrom, Turned, Ran}
+use Rattle.rounds.specs.Ready.{RoomFrom, Turned, Ran}
 use Rattle.rounds.proofs.Stopping.{Running, Ends, running-none, running-more, stops-by, rounds-none, ends-at, ends-spent}
 use Rattle.rounds.proofs.Small.{from-length}
 use Rattle.rounds.proofs.Verdict.{width-le}
-use Rattle.rounds.proofs.Tabling.{next-length}
 
 -- ---- a list of n cells laid over a table
 module _ (n : ℕ) (A L : List ℕ) (sized : length A ≡ n) where
@@ -62,27 +71,47 @@ module _ (P : Plan) (wf : WellFormed P) (w k k₀ : ℕ) (ew : w ≡ width P) (e
   pub stops-fit : (n m : ℕ) → n ≡ P .points → cells P ≤ m → (w ≤ k) × (n * w ≤ m) × (n * w ≤ k)
   stops-fit n m en f = (alarm-fits, rw (en, ew) f, rw (en, ew, e) long)
 
+pub settle-fits : (bs : List ℕ) (accepted : Accepted bs) (n w k k₀ m : ℕ) → n ≡ planOf bs .points → w ≡ width (planOf bs) → k ≡ k₀ → cells (planOf bs) ≤ k₀ → cells (planOf bs) ≤ m → (n * w ≤ k) × (n * w ≤ m) × (n ≤ 32)
+settle-fits bs accepted n w k k₀ m en ew e long f = (rw (en, ew, e) long, rw (en, ew) f, rw en (accepted-bounded bs accepted .points-in))
+
 -- the first alarm's cells among those laid over a table
 pub waits-in : (P : Plan) → WellFormed P → (A L G : List ℕ) (w : ℕ) → length A ≡ cells P → w ≡ width P → G ≡ laidOver (cells P) A L → anyAbove (take w G) ≡ firstAlarmWaits P A
 waits-in P wf A L G w known ew g = ap anyAbove (ap₂ take ew (g ∙ laid-joined (cells P) A L known) ∙ take-append-le (width P) A (drop (cells P) L) (rw known (width-le P wf)))
 
--- a round, its tests and the copy; the code's numbers n, w and e are the points, the cells of a point and the cells
-module _ (P : Plan) (wf : WellFormed P) (F : List ℕ) (long : cells P ≤ length F) where
-  pub turned : (G F′ G′ : List ℕ) (n w e : ℕ) (stops : Bool) → n ≡ P .points → w ≡ width P → e ≡ cells P → G′ ≡ laidOver (cells P) (next P (take (cells P) F)) G → length G′ ≡ length G
-      → stops ≡ anyAbove (take w G′) || same (take (n * w) F) (take (n * w) G′) → F′ ≡ laidOver e G′ F → length F′ ≡ length F → Turned P F G stops F′ G′
-  turned G F′ G′ n w e stops en ew ee g lg s f lf =
-      let B = next P (take (cells P) F) in
-      let known : length B ≡ cells P = next-length P wf F long in
-      let all : n * w ≡ cells P = ap₂ (λ (x y : ℕ). x * y) en ew in record {
+-- a round, its tests, and the first table brought level; the code's numbers n and w are the points and the cells of a point
+module _ (P : Plan) (wf : WellFormed P) (F : List ℕ) (long : cells P ≤ length F) (G G′ : List ℕ) (n w : ℕ) (en : n ≡ P .points) (ew : w ≡ width P) (made : G′ ≡ laidOver (cells P) (next P (take (cells P) F)) G) where
+  all : n * w ≡ cells P
+  all = ap₂ (λ (x y : ℕ). x * y) en ew
+
+  sized : length (next P (take (cells P) F)) ≡ cells P
+  sized = next-length P wf F long
+
+  pub turned : (F′ : List ℕ) (stops : Bool) → length G′ ≡ length G → stops ≡ anyAbove (take w G′) || same (take (n * w) F) (take (n * w) G′) → F′ ≡ laidOver (n * w) G′ F → length F′ ≡ length F → Turned P F G stops F′ G′
+  turned F′ stops lg s f lf =
+      let B = next P (take (cells P) F) in record {
         stops-is = s
             ∙ ap₂ (λ (x y : Bool). x || y)
-            (waits-in P wf B G G′ w known ew g)
-            (ap₂ same (ap (λ (x : ℕ). take x F) all) (ap₂ take all g ∙ front-is (cells P) B G known));
-        first-is = f ∙ ap₂ (λ (x : ℕ) (y : List ℕ). laidOver x y F) ee g ∙ laid-on (cells P) B G known F;
-        second-is = g;
+            (waits-in P wf B G G′ w sized ew made)
+            (ap₂ same (ap (λ (x : ℕ). take x F) all) (ap₂ take all made ∙ front-is (cells P) B G sized));
+        first-is = f ∙ ap₂ (λ (x : ℕ) (y : List ℕ). laidOver x y F) all made ∙ laid-on (cells P) B G sized F;
+        second-is = made;
         first-length = lf;
         second-length = lg;
       }
+
+  -- the points whose cells agree are settled
+  pub turn-settled : (changed : ℕ) → cells P ≤ length G → length G′ ≡ length G → ((y : ℕ) → y < n → (Is (contains changed y) → ⊥) → rowOf w y F ≡ rowOf w y G′) → Settled P (next P (take (cells P) F)) changed
+  turn-settled changed g lg agree = settled-next P wf (take (cells P) F) changed (length-take-le (cells P) F long) same-part
+    where
+      within : (y : ℕ) → y < P .points → y * width P + width P ≤ cells P
+      within y h = row-within y (P .points) (width P) h
+
+      row : (y : ℕ) → y < P .points → (L : List ℕ) → cells P ≤ length L → part P y (take (cells P) L) ≡ rowOf w y L
+      row y h L k = row-cut (y * width P) (width P) (cells P) L (within y h) k ∙ ap (λ (v : ℕ). take v (drop (y * v) L)) (sym ew)
+
+      same-part : (y : ℕ) → y < P .points → (Is (contains changed y) → ⊥) → part P y (take (cells P) F) ≡ part P y (next P (take (cells P) F))
+      same-part y h out =
+          row y h F long ∙ agree y (omega arith) out ∙ sym (row y h G′ (rw lg g)) ∙ ap (part P y) (ap (take (cells P)) made ∙ front-is (cells P) (next P (take (cells P) F)) G sized)
 
 -- ---- the rounds one by one
 -- both tables hold the table of round r, and no round up to r stopped
@@ -102,6 +131,9 @@ held-none P F G e = record {
   first-length = refl;
   second-length = refl;
 }
+
+pub settled-none : (P : Plan) → WellFormed P → P .points ≤ 32 → (F : List ℕ) → cells P ≤ length F → Settled P (take (cells P) F) 4294967295
+settled-none P wf few F long = settled-all P wf (take (cells P) F) (length-take-le (cells P) F long) few
 
 -- the first table's cells were copied to the second, which was G₀; the code's number e is the cells
 module _ (P : Plan) (F G G₀ : List ℕ) (e : ℕ) (long : cells P ≤ length F) (ee : e ≡ cells P) (copied : G ≡ laidOver e F G₀) where
@@ -137,6 +169,16 @@ module _ (P : Plan) (wf : WellFormed P) (F₀ : List ℕ) (long : cells P ≤ le
   module _ (r : ℕ) (F G : List ℕ) (held : Held P F₀ G₀ r F G) where
     front : take (cells P) F ≡ tableFrom P (take (cells P) F₀) r
     front = ap (take (cells P)) (held .first-is) ∙ front-is (cells P) (tableFrom P (take (cells P) F₀) r) F₀ (known r)
+
+    pub held-level : take (cells P) G ≡ take (cells P) F
+    held-level = ap (take (cells P)) (held .second-is) ∙ front-is (cells P) (tableFrom P (take (cells P) F₀) r) G₀ (known r) ∙ sym front
+
+    -- what is known of the points that changed
+    pub held-settled : (changed : ℕ) → Settled P (tableFrom P (take (cells P) F₀) r) changed → Settled P (take (cells P) F) changed
+    held-settled changed s = rw front s
+
+    pub settled-again : (changed : ℕ) → Settled P (next P (take (cells P) F)) changed → Settled P (tableFrom P (take (cells P) F₀) (r + 1)) changed
+    settled-again changed s = rw add-one (rw (← front) s)
 
     -- the waits leave room for a duration
     pub held-room : RoomFrom P (take (cells P) F₀) → AtMost 4000000000 (take (cells P) F)

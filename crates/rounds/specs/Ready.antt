@@ -3,24 +3,14 @@ use mathlib.Core.Path.{_≡_}
 use mathlib.Core.Bool.{Bool, _||_}
 use mathlib.Core.List.{List, _++_}
 use mathlib.Core.Option.{none}
-use Prim.Native.Nat.{ℕ, _≤_}
+use Prim.Native.Nat.{ℕ}
 use lib.ListN.{length, take, drop}
-use Rattle.plan.specs.Label.{Marks}
 use Rattle.plan.specs.Plan.{Plan, cells}
-use Rattle.plan.specs.Layout.{planOf}
-use Rattle.plan.specs.Refusal.{Accepted}
 use Rattle.rules.specs.Tables.{next}
 use Rattle.filling.specs.Lent.{AtMost, laidOver}
-use Rattle.rounds.specs.Rounds.{tableFrom, same, firstAlarmWaits, roundsTo}
+use Rattle.tables.specs.Cells.{same}
+use Rattle.rounds.specs.Rounds.{tableFrom, firstAlarmWaits, roundsTo}
 use Rattle.rounds.specs.Outcomes.{Outcome, runOutcome, runTable}
-
--- an accepted plan, the marks, the plan's horizon, and two tables that have all cells
-pub record Ready (plan marks : List ℕ) (horizon : ℕ) (first second : List ℕ) : Type 0 where
-  pub accepted : Accepted plan
-  pub marked : Marks marks
-  pub horizon-is : horizon ≡ planOf plan .horizon
-  pub long-first : cells (planOf plan) ≤ length first
-  pub long-second : cells (planOf plan) ≤ length second
 
 -- the waits of the rounds from T leave room for a duration in 32 bits while none stopped
 pub record RoomFrom (P : Plan) (T : List ℕ) : Type 0 where

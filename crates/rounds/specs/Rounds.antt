@@ -1,12 +1,12 @@
 -- Rounds, R and the outcome with a limit (document 01, "Lines and the six rules", last paragraph, and "The check"), from any starting table.
-use mathlib.Core.Bool.{Bool, true, false, cond, _&&_, _||_}
-use mathlib.Core.List.{List, [], _∷_}
+use mathlib.Core.Bool.{Bool, cond, _||_}
+use mathlib.Core.List.{List}
 use mathlib.Core.Option.{Option, none, some}
 use Prim.Native.Nat.{ℕ, zero, suc, _-_}
-use lib.Dec.{ltb, eqb}
 use lib.ListN.{replicate, take}
 use Rattle.plan.specs.Plan.{Plan, width, cells}
 use Rattle.rules.specs.Tables.{next}
+use Rattle.tables.specs.Cells.{same, anyAbove}
 
 -- table(r) of the rounds that start from T
 abbrev pub tableFrom : Plan → List ℕ → ℕ → List ℕ
@@ -16,17 +16,6 @@ tableFrom P T (suc r) = next P (tableFrom P T r)
 -- "Table(0) holds all zeros"
 abbrev pub zeros : Plan → List ℕ
 zeros P = replicate (cells P) 0
-
--- two tables have the same cells
-abbrev pub same : List ℕ → List ℕ → Bool
-same [] [] = true
-same [] (y ∷ ys) = false
-same (x ∷ xs) [] = false
-same (x ∷ xs) (y ∷ ys) = eqb x y && same xs ys
-
-abbrev pub anyAbove : List ℕ → Bool
-anyAbove [] = false
-anyAbove (x ∷ xs) = ltb 0 x || anyAbove xs
 
 -- "Z has a cell above 0": the first cells of a table are Z's
 abbrev pub firstAlarmWaits : Plan → List ℕ → Bool

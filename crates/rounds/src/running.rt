@@ -1,16 +1,19 @@
 // Rounds up to a limit, and the check.
 use crate::Answer;
-use crate::tables::clear_cells;
-use crate::tables::copy_cells;
-use crate::tables::first_alarm_waits;
-use crate::tables::round;
-use crate::tables::same_cells;
 use plan::cells;
 use plan::horizon as horizon_of;
 use plan::plain_marks;
 use plan::points;
 use plan::width as point_width;
 use refusals::refusal;
+use sources::ALL_POINTS;
+use sources::find_sources;
+use tables::clear_cells;
+use tables::copy_cells;
+use tables::first_alarm_waits;
+use tables::next_round;
+use tables::same_cells;
+use tables::settle;
 ghost use mathlib.Core.Path.{_≡_};
 ghost use mathlib.Core.Bool.{_||_};
 ghost use Prim.Native.Nat.{_*_, _≤_};
@@ -18,9 +21,12 @@ ghost use lib.ListN.{length, take};
 ghost use Rattle.plan.specs.Plan.{cells as cellsOf};
 ghost use Rattle.plan.specs.Layout.{planOf};
 ghost use Rattle.plan.specs.Refusal.{Accepted};
+ghost use Rattle.rules.specs.Tables.{next};
 ghost use Rattle.filling.specs.Lent.{AtMost};
-ghost use Rattle.rounds.specs.Ready.{Ready, RoomFrom, Turned, Ran};
-ghost use Rattle.rounds.specs.Rounds.{same, anyAbove};
+ghost use Rattle.sources.specs.Sources.{Settled};
+ghost use Rattle.tables.specs.Cells.{same, anyAbove};
+ghost use Rattle.tables.specs.Ready.{Ready, Tracked};
+ghost use Rattle.rounds.specs.Ready.{RoomFrom, Turned, Ran};
 ghost use Rattle.rounds.specs.Outcomes.{kept, broken, pick, outcomeOf, checkOutcome, checkTable};
 ghost use Rattle.rounds.specs.Demand.{Demand3};
 
@@ -35,18 +41,34 @@ fn stops(first: &[u32], second: &[u32], points: usize, width: usize) -> bool
     same_cells(first, second, points, width)
 }
 
-// One round of both tables, and whether it stops the rounds.
-fn turn(plan: &[u8], marks: &[u8; 256], horizon: u64, first: &mut [u32], second: &mut [u32]) -> bool
-    requires { ⌜ Ready (now plan) (now marks) horizon (now first) (now second) × AtMost 4000000000 (take (cellsOf (planOf (now plan))) (now first)) ⌝ }
-    ensures { λ r. ⌜ Turned (planOf (now (plan .entry))) (now (first .entry)) (now (second .entry)) r (now (first .exit)) (now (second .exit)) ⌝ }
+// A round made: whether it stops the rounds, and a set that has all points that it changed.
+pub struct MadeRound {
+    pub stops: bool,
+    pub changed: usize,
+}
+
+// One round of both tables, which have the same cells before it and after it.
+fn turn(
+    plan: &[u8],
+    marks: &[u8; 256],
+    horizon: u64,
+    first: &mut [u32],
+    second: &mut [u32],
+    sources: &[usize],
+    changed: usize,
+) -> MadeRound
+    requires { ⌜ Ready (now plan) (now marks) horizon (now first) (now second) × AtMost 4000000000 (take (cellsOf (planOf (now plan))) (now first)) × (take (cellsOf (planOf (now plan))) (now second) ≡ take (cellsOf (planOf (now plan))) (now first)) × Tracked (planOf (now plan)) (take (cellsOf (planOf (now plan))) (now first)) (now sources) changed ⌝ }
+    ensures { λ r. ⌜ Turned (planOf (now (plan .entry))) (now (first .entry)) (now (second .entry)) (r .stops) (now (first .exit)) (now (second .exit)) ⌝ }
+    ensures { λ r. ⌜ Settled (planOf (now (plan .entry))) (next (planOf (now (plan .entry))) (take (cellsOf (planOf (now (plan .entry)))) (now (first .entry)))) (r .changed) ⌝ }
 {
     let n = points(plan);
     let width = point_width(plan);
-    let end = cells(plan);
-    round(plan, marks, horizon, first, second);
+    next_round(plan, marks, horizon, first, second, sources, changed);
     let ended = stops(first, second, n, width);
-    copy_cells(second, first, end);
-    ended
+    MadeRound {
+        stops: ended,
+        changed: settle(second, first, n, width),
+    }
 }
 
 // The answer of the round that stopped.
@@ -60,7 +82,7 @@ fn ending(table: &[u32], width: usize, made: u32) -> Answer
     Answer::Kept(made)
 }
 
-// Rounds from two tables with the same cells, up to the limit.
+// Rounds from two tables with the same cells, up to the limit. Before the first round every point counts as changed.
 fn rounds_to(
     plan: &[u8],
     marks: &[u8; 256],
@@ -73,12 +95,17 @@ fn rounds_to(
     ensures { λ r. ⌜ Ran (planOf (now (plan .entry))) (now (first .entry)) (now (second .entry)) limit (outcomeOf r) (now (first .exit)) (now (second .exit)) ⌝ }
 {
     let width = point_width(plan);
+    let mut sources = [0usize; 32];
+    find_sources(plan, &mut sources);
+    let mut changed = ALL_POINTS;
     let mut made = 0;
     while made < limit {
         made += 1;
-        if turn(plan, marks, horizon, first, second) {
+        let turned = turn(plan, marks, horizon, first, second, &sources, changed);
+        if turned.stops {
             return ending(second, width, made);
         }
+        changed = turned.changed;
     }
     Answer::Spent(limit)
 }

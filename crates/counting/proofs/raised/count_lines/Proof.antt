@@ -4,7 +4,7 @@ use native.Mathlib.Omega.{arith}
 use denote.Ref.{now}
 use borrow.Author.Needs.{needs}
 use Rattle.plan.specs.Layout.{planOf}
-use Rattle.rounds.proofs.Tabling.{sizes-few}
+use Rattle.plan.proofs.Ranges.{sizes-few}
 use Rattle.lines.proofs.Exactly.{clear-exact, exact-on, breaks-after}
 use Rattle.counting.proofs.Saturated.{breaks-last, listing-counted, last-table, last-lent}
 use Rattle.counting.proofs.raised.count_lines.Statement.{statement}

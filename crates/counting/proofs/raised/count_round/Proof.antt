@@ -1,7 +1,7 @@
 -- The round, the cells that it raised, and the copy back.
 use denote.Ref.{now}
 use borrow.Author.Needs.{needs}
-use Rattle.rounds.proofs.Tabling.{sizes-few}
+use Rattle.plan.proofs.Ranges.{sizes-few}
 use Rattle.lines.proofs.Exactly.{exact-ready, exact-room}
 use Rattle.counting.proofs.Saturated.{round-counted}
 use Rattle.counting.proofs.raised.count_round.Statement.{statement}

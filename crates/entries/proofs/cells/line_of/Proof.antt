@@ -1,6 +1,6 @@
 -- Quotients and remainders by the labels and the sets take a cell apart.
 use denote.Ref.{now}
-use Rattle.rounds.proofs.Tabling.{sizes-few}
+use Rattle.plan.proofs.Ranges.{sizes-few}
 use Rattle.lines.specs.Listed.{table}
 use Rattle.entries.proofs.EntryLaws.{labels-pos, sets-pos, line-read}
 use borrow.Author.Needs.{needs}

@@ -6,8 +6,7 @@ use lib.ListN.{length}
 use denote.Ref.{now}
 use borrow.Author.Needs.{needs}
 use Rattle.plan.specs.Layout.{planOf}
-use Rattle.plan.proofs.Ranges.{accepted-bounded}
-use Rattle.rounds.proofs.Tabling.{sizes-few}
+use Rattle.plan.proofs.Ranges.{accepted-bounded, sizes-few}
 use Rattle.entries.proofs.NumberLaws.{width-pos, Started, started-none, started-more, started-all}
 use Rattle.entries.proofs.numbering.start_index.Statement.{statement}
 use Rattle.entries.proofs.numbering.start_index.Tie as tie

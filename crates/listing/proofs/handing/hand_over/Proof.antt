@@ -5,7 +5,7 @@ use native.Mathlib.Omega.{arith}
 use denote.Ref.{now}
 use Rattle.plan.specs.Plan.{cells}
 use Rattle.plan.specs.Layout.{planOf}
-use Rattle.rounds.proofs.Tabling.{sizes-few}
+use Rattle.plan.proofs.Ranges.{sizes-few}
 use Rattle.listing.proofs.HandLaws.{cut-length, first-cut, second-cut, first-back, second-back, hands-over, listing-bytes}
 use borrow.Author.Needs.{needs}
 use Rattle.listing.proofs.handing.hand_over.Statement.{statement}

@@ -1,7 +1,7 @@
 -- The first cells of both tables are lent, and come back as they were.
 use denote.Ref.{now}
 use Rattle.plan.specs.Plan.{cells}
-use Rattle.rounds.proofs.Tabling.{sizes-few}
+use Rattle.plan.proofs.Ranges.{sizes-few}
 use Rattle.listing.proofs.HandLaws.{first-cut, second-cut, first-back, second-back}
 use borrow.Author.Needs.{needs}
 use Rattle.listing.proofs.handing.lines_of.Statement.{statement}

@@ -3,8 +3,8 @@ use mathlib.Core.Path.{sym, _∙_}
 use native.Mathlib.Omega.{arith}
 use denote.Ref.{now}
 use Rattle.plan.specs.Plan.{cells}
+use Rattle.plan.proofs.Ranges.{sizes-few}
 use Rattle.rounds.specs.Outcomes.{outcomeOf}
-use Rattle.rounds.proofs.Tabling.{sizes-few}
 use Rattle.listing.proofs.HandLaws.{check-follows, list-refused, list-short, list-answered}
 use borrow.Author.Needs.{needs}
 use Rattle.listing.proofs.handing.list.Statement.{statement}

@@ -4,7 +4,7 @@ use Prim.Native.Nat.{_-_, _≤_}
 use native.Mathlib.Omega.{arith}
 use denote.Ref.{now}
 use borrow.Author.Needs.{needs}
-use Rattle.rounds.proofs.Tabling.{row-within}
+use Rattle.tables.proofs.Tabling.{row-within}
 use Rattle.report.specs.Text.{joined, pointLine}
 use Rattle.report.specs.Buffer.{Put}
 use Rattle.report.proofs.Puts.{put-none, put-joined, room-joined}

@@ -3,8 +3,8 @@ use mathlib.Core.Path.{sym, _∙_}
 use denote.Ref.{now}
 use borrow.Author.Needs.{needs}
 use Rattle.plan.specs.Layout.{planOf}
+use Rattle.plan.proofs.Ranges.{sizes-few}
 use Rattle.rounds.specs.Outcomes.{outcomeOf}
-use Rattle.rounds.proofs.Tabling.{sizes-few}
 use Rattle.report.specs.Text.{textOf}
 use Rattle.report.proofs.Puts.{room-first}
 use Rattle.report.proofs.PrintedLaws.{text-refused, lines-asked, lines-put}

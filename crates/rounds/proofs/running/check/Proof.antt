@@ -4,7 +4,7 @@ use native.Mathlib.Omega.{arith}
 use denote.Ref.{now}
 use borrow.Author.Needs.{needs}
 use Rattle.plan.specs.Layout.{planOf}
-use Rattle.rounds.proofs.Tabling.{sizes-few}
+use Rattle.plan.proofs.Ranges.{sizes-few}
 use Rattle.rounds.proofs.Checking.{check-all, check-refused, check-short, short-first, short-second}
 use Rattle.rounds.proofs.running.check.Statement.{statement}
 use Rattle.rounds.proofs.running.check.Tie as tie

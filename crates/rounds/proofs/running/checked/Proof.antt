@@ -1,7 +1,7 @@
 -- The first table's cells are cleared, so the rounds start from zeros.
 use denote.Ref.{now}
 use borrow.Author.Needs.{needs}
-use Rattle.rounds.proofs.Tabling.{sizes-few}
+use Rattle.plan.proofs.Ranges.{sizes-few}
 use Rattle.rounds.proofs.Checking.{cleared-room, cleared-ran}
 use Rattle.rounds.proofs.running.checked.Statement.{statement}
 use Rattle.rounds.proofs.running.checked.Tie as tie

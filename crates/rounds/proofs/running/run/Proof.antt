@@ -3,7 +3,7 @@ use mathlib.Core.Path.{refl}
 use denote.Ref.{now}
 use borrow.Author.Needs.{needs}
 use Rattle.plan.specs.Layout.{planOf}
-use Rattle.rounds.proofs.Tabling.{sizes-few}
+use Rattle.plan.proofs.Ranges.{sizes-few}
 use Rattle.rounds.proofs.Turns.{ready-on, copied-level, copied-ran}
 use Rattle.rounds.proofs.running.run.Statement.{statement}
 use Rattle.rounds.proofs.running.run.Tie as tie

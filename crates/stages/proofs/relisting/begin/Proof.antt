@@ -3,7 +3,7 @@ use denote.Ref.{now}
 use borrow.Author.Needs.{needs}
 use Rattle.plan.specs.Plan.{cells}
 use Rattle.plan.specs.Layout.{planOf}
-use Rattle.rounds.proofs.Tabling.{sizes-few}
+use Rattle.plan.proofs.Ranges.{sizes-few}
 use Rattle.writing.proofs.Putting.{count-put}
 use Rattle.lines.proofs.Exactly.{clear-exact}
 use borrow.Author.Needs.{needs}

@@ -2,7 +2,7 @@
 use Prim.Native.Nat.{_-_}
 use denote.Ref.{now}
 use Rattle.plan.specs.Plan.{cells}
-use Rattle.rounds.proofs.Tabling.{sizes-few}
+use Rattle.plan.proofs.Ranges.{sizes-few}
 use Rattle.lines.proofs.Exactly.{exact-ready, exact-room}
 use Rattle.stages.proofs.StageLaws.{filled-lowest, ready-round, round-listed}
 use borrow.Author.Needs.{needs}

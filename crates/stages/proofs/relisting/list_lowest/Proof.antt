@@ -2,7 +2,7 @@
 use native.Mathlib.Omega.{arith}
 use denote.Ref.{now}
 use Rattle.plan.specs.Plan.{width}
-use Rattle.rounds.proofs.Tabling.{sizes-few}
+use Rattle.plan.proofs.Ranges.{sizes-few}
 use Rattle.stages.proofs.StageLaws.{width-fits, lowest-in, lowest-raised, lowest-listed, lowest-numbered}
 use borrow.Author.Needs.{needs}
 use Rattle.stages.proofs.relisting.list_lowest.Statement.{statement}

@@ -7,8 +7,8 @@ use lib.ListN.{length}
 use denote.Ref.{now}
 use borrow.Author.Needs.{needs}
 use Rattle.plan.specs.Plan.{cells}
+use Rattle.plan.proofs.Ranges.{sizes-few}
 use Rattle.rules.specs.declared.Line.{Line}
-use Rattle.rounds.proofs.Tabling.{sizes-few}
 use Rattle.lines.proofs.Exactly.{exact-ready, exact-room}
 use Rattle.stages.proofs.StageLaws.{ready-round, filled-lines, filled-room, round-listed}
 use borrow.Author.Needs.{needs}
