@@ -4,3 +4,4 @@ pub mod DecimalPuts
 pub mod Lengths
 pub mod PrintedLaws
 pub mod BenchText
+pub mod Verdicts

@@ -16,7 +16,7 @@ joined f (suc n) = joined f n ++ f n
 unfoldable pub numberedLine : List ℕ → ℕ → List ℕ
 numberedLine word n = word ++ (decimal n ++ (10 ∷ []))
 
--- `kept R`, `broken R`, `spent R` or `refused N`
+-- `kept R`, `broken R` or `refused N`; `spent R` is here for the check's fourth answer, which the program's limit rules out (proofs/Verdicts.antt)
 unfoldable pub firstLine : Outcome → List ℕ
 firstLine (kept r) = numberedLine (107 ∷ 101 ∷ 112 ∷ 116 ∷ 32 ∷ []) r
 firstLine (broken r) = numberedLine (98 ∷ 114 ∷ 111 ∷ 107 ∷ 101 ∷ 110 ∷ 32 ∷ []) r
