@@ -341,9 +341,12 @@ mod rules {
     }
 }
 
-// One point's part of the next table.
-mod filling {
-    pub use self::fill::fill_point;
+// The loops that raise the cells of one point's part, one for each shape of rule.
+mod raising {
+    pub use self::cells::clear_in;
+    pub use self::cells::copy_part;
+    pub use self::cells::propagate_in;
+    pub use self::cells::remove_in;
 
     // The loops over a point's cells, one for each shape of rule.
     mod cells {
@@ -478,6 +481,11 @@ mod filling {
             }
         }
     }
+}
+
+// One point's part of the next table.
+mod filling {
+    pub use self::fill::fill_point;
 
     // Filling one point's part of the second table, row by row.
     mod fill {
@@ -491,10 +499,10 @@ mod filling {
         use super::super::plan::propositions;
         use super::super::plan::width as point_width;
         use super::super::rules::Propagator;
-        use super::cells::clear_in;
-        use super::cells::copy_part;
-        use super::cells::propagate_in;
-        use super::cells::remove_in;
+        use super::super::raising::clear_in;
+        use super::super::raising::copy_part;
+        use super::super::raising::propagate_in;
+        use super::super::raising::remove_in;
         use super::rows::digit_mask;
         use super::rows::edge_row;
         use super::rows::label_mask;

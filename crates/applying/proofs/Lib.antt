@@ -1,2 +1,1 @@
 pub mod ApplyLaws
-pub mod SameLines

@@ -10,7 +10,7 @@ use Rattle.plan.specs.Plan.{Plan, cells}
 use Rattle.plan.specs.Layout.{planOf}
 use Rattle.plan.specs.Refusal.{Accepted}
 use Rattle.rules.specs.Tables.{next}
-use Rattle.filling.specs.Lent.{AtMost, laidOver}
+use Rattle.raising.specs.Parts.{AtMost, laidOver}
 use Rattle.lines.specs.Listed.{table, raisedLines, linesTo, listingLines}
 use Rattle.lines.specs.Stages.{BreaksIn, Exact}
 use Rattle.lines.proofs.LineCounts.{raised-counted, raised-passed, lines-next, listing-count}

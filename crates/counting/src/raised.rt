@@ -12,7 +12,7 @@ ghost use Rattle.plan.specs.Plan.{Plan, cells as cellsOf};
 ghost use Rattle.plan.specs.Layout.{planOf};
 ghost use Rattle.plan.specs.Refusal.{Accepted};
 ghost use Rattle.rules.specs.Tables.{next};
-ghost use Rattle.filling.specs.Lent.{AtMost};
+ghost use Rattle.raising.specs.Parts.{AtMost};
 ghost use Rattle.lines.specs.Listed.{table, raisedLines, linesTo, listingLines};
 ghost use Rattle.lines.specs.Stages.{BreaksIn, Exact};
 

@@ -13,7 +13,8 @@ use Rattle.plan.proofs.Widths.{labels-small}
 use Rattle.plan.proofs.Ranges.{accepted-bounded}
 use Rattle.rules.specs.Shapes.{labelMask}
 use Rattle.rules.proofs.ShapeLaws.{row-in, or-in-by, all-in-by}
-use Rattle.filling.specs.Lent.{AtMost, Lent, Hoisted, Run}
+use Rattle.raising.specs.Parts.{AtMost, Run}
+use Rattle.filling.specs.Lent.{Lent, Hoisted}
 
 pub lent-on : (bs F B D : List ℕ) → Lent bs F B → length D ≡ length B → Lent bs F D
 lent-on bs F B D l e = record { accepted = l .accepted; bound = l .bound; long-first = l .long-first; long-part = rw e (l .long-part) }

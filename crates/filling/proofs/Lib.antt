@@ -1,3 +1,1 @@
-pub mod Laying
 pub mod Lending
-pub mod Runs

@@ -1,8 +1,4 @@
 // Filling one point's part of the second table, row by row.
-use crate::cells::clear_in;
-use crate::cells::copy_part;
-use crate::cells::propagate_in;
-use crate::cells::remove_in;
 use crate::rows::digit_mask;
 use crate::rows::edge_row;
 use crate::rows::label_mask;
@@ -19,6 +15,10 @@ use plan::observer;
 use plan::points;
 use plan::propositions;
 use plan::width as point_width;
+use raising::clear_in;
+use raising::copy_part;
+use raising::propagate_in;
+use raising::remove_in;
 use rules::Propagator;
 ghost use mathlib.Core.Path.{_≡_};
 ghost use mathlib.Core.List.{_++_};

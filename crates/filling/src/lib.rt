@@ -1,5 +1,4 @@
 // One point's part of the next table.
-mod cells;
 mod fill;
 mod rows;
 

@@ -21,7 +21,7 @@ use Rattle.rules.specs.Derivations.{InPlan}
 use Rattle.rules.proofs.Deriving.{fires-facts}
 use Rattle.rules.proofs.InRange.{InRange, result-range}
 use Rattle.rules.proofs.Cells.{digit-lt, cell-at, at-range}
-use Rattle.applying.proofs.SameLines.{same-equal, equal-same}
+use Rattle.giving.proofs.SameLines.{same-equal, equal-same}
 use Rattle.rules.proofs.Fill.{firstPoint, secondPoint, or-r}
 use Rattle.grounds.specs.Grounds.{holdsLine, Grounds}
 use Rattle.grounds.specs.Searching.{givenPoint, twoParents, Among, FirstAt, ByRule}

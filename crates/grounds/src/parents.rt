@@ -6,7 +6,7 @@ use crate::lines::line_at;
 use crate::lines::widened;
 use crate::rows::second_point;
 use crate::rows::two_parents;
-use applying::gives_line;
+use giving::gives_line;
 use rules::Line;
 use rules::Rule;
 ghost use mathlib.Core.Path.{_≡_};

@@ -12,7 +12,7 @@ use Rattle.plan.specs.Refusal.{Accepted}
 use Rattle.plan.proofs.Ranges.{accepted-well-formed, accepted-bounded}
 use Rattle.rules.specs.Tables.{next}
 use Rattle.rules.proofs.Next.{next-is}
-use Rattle.filling.specs.Lent.{AtMost, laidOver}
+use Rattle.raising.specs.Parts.{AtMost, laidOver}
 use Rattle.tables.specs.Ready.{Ready}
 use Rattle.rounds.specs.Rounds.{zeros}
 use Rattle.rounds.proofs.Stopping.{Running, running-less}

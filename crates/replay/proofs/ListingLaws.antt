@@ -23,7 +23,7 @@ use Rattle.rules.specs.declared.Rule.{Rule}
 use Rattle.rules.specs.declared.Rule.the-variants.{Propagation, LowerCase, UpperCase, LetterRemoval, OwnLiteral, LiteralRemoval}
 use Rattle.rules.specs.Lines.{fromTo, startingLine}
 use Rattle.applying.specs.Applying.{givesLine}
-use Rattle.applying.proofs.SameLines.{gives-facts, facts-give}
+use Rattle.giving.proofs.SameLines.{gives-facts, facts-give}
 use Rattle.rules.specs.Derivations.{InPlan, Parent, Given, Follows, Derivation, SelfWaitBy}
 use Rattle.replay.specs.Listings.{lineCount, headLine, headRule, rowOf, firstParent, secondParent, linesIn, just, edgeOf, ruleOf, usesSecond, parentLine}
 use Rattle.replay.specs.Replaying.{laidOut, inRange, parentsKnown, follows, judgeRule, judgeLine, orElse, judgeLines, judgeLast, judgeListing, replay}

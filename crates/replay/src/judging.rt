@@ -6,7 +6,7 @@ use crate::fields::head_rule;
 use crate::fields::line_count;
 use crate::fields::row_of;
 use crate::fields::second_parent;
-use applying::gives_line;
+use giving::gives_line;
 use plan::edges;
 use plan::horizon as horizon_of;
 use plan::is_plain;

@@ -13,7 +13,7 @@ use Rattle.plan.specs.Plan.{Plan, cells}
 use Rattle.plan.specs.Layout.{planOf, lengthFor}
 use Rattle.plan.specs.Refusal.{Accepted, every, sizesFit, observerFits, linkFits, edgeFits, refusalOf, refusal}
 use Rattle.plan.proofs.Ranges.{accepted-well-formed, accepted-bounded}
-use Rattle.filling.specs.Lent.{laidOver}
+use Rattle.raising.specs.Parts.{laidOver}
 use Rattle.rounds.specs.Rounds.{tableFrom, zeros, roundsTo}
 use Rattle.rounds.specs.Outcomes.{Outcome, refused, runOutcome, runTable, tooShort, checkOutcome, checkTable}
 use Rattle.rounds.specs.Demand.{Demand3}

@@ -15,7 +15,7 @@ use Rattle.plan.specs.Layout.{planOf}
 use Rattle.plan.specs.Refusal.{Accepted}
 use Rattle.plan.proofs.Ranges.{WellFormed, accepted-bounded}
 use Rattle.rules.specs.Tables.{next, part}
-use Rattle.filling.specs.Lent.{AtMost, laidOver}
+use Rattle.raising.specs.Parts.{AtMost, laidOver}
 use Rattle.sources.specs.Sources.{Settled}
 use Rattle.sources.proofs.Still.{settled-all, settled-next}
 use Rattle.tables.specs.Cells.{same, anyAbove}

@@ -7,7 +7,7 @@ use Prim.Native.Nat.{ℕ}
 use lib.ListN.{length, take, drop}
 use Rattle.plan.specs.Plan.{Plan, cells}
 use Rattle.rules.specs.Tables.{next}
-use Rattle.filling.specs.Lent.{AtMost, laidOver}
+use Rattle.raising.specs.Parts.{AtMost, laidOver}
 use Rattle.tables.specs.Cells.{same}
 use Rattle.rounds.specs.Rounds.{tableFrom, firstAlarmWaits, roundsTo}
 use Rattle.rounds.specs.Outcomes.{Outcome, runOutcome, runTable}

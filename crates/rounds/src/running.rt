@@ -22,7 +22,7 @@ ghost use Rattle.plan.specs.Plan.{cells as cellsOf};
 ghost use Rattle.plan.specs.Layout.{planOf};
 ghost use Rattle.plan.specs.Refusal.{Accepted};
 ghost use Rattle.rules.specs.Tables.{next};
-ghost use Rattle.filling.specs.Lent.{AtMost};
+ghost use Rattle.raising.specs.Parts.{AtMost};
 ghost use Rattle.sources.specs.Sources.{Settled};
 ghost use Rattle.tables.specs.Cells.{same, anyAbove};
 ghost use Rattle.tables.specs.Ready.{Ready, Tracked};

@@ -15,7 +15,7 @@ use Rattle.rules.specs.declared.Line.{Line}
 use Rattle.rules.specs.Lines.{lineAt}
 use Rattle.rules.specs.Tables.{next}
 use Rattle.rules.proofs.Cells.{cell-at}
-use Rattle.filling.specs.Lent.{laidOver}
+use Rattle.raising.specs.Parts.{laidOver}
 use Rattle.rounds.proofs.Verdict.{width-le}
 use Rattle.replay.specs.Listings.{lineCount}
 use Rattle.lines.specs.Listed.{table, raisedLines, linesTo, lowestRaised, listingLines, indexTable}

@@ -7,7 +7,7 @@ use Rattle.plan.specs.Plan.{Plan, width}
 use Rattle.plan.specs.Layout.{planOf}
 use Rattle.rules.specs.declared.Line.{Line}
 use Rattle.rules.specs.Tables.{next}
-use Rattle.filling.specs.Lent.{AtMost}
+use Rattle.raising.specs.Parts.{AtMost}
 use Rattle.replay.specs.Listings.{lineCount}
 use Rattle.lines.specs.Listed.{table, linesTo, lowestRaised, indexTable}
 use Rattle.lines.specs.Stages.{BreaksIn, Exact, Known, Appended, Numbered}

@@ -12,8 +12,8 @@ use lib.ListN.{length, getD, take, drop, length-take, length-drop, take-append-d
 use lib.Seq.{getD-take, getD-drop, ext-getD, take-add, drop-drop, drop-at, length-take-le}
 use borrow.Rule.Slice.PartMut.{putMid}
 use Rattle.plan.specs.LinkSet.{contains}
-use Rattle.filling.specs.Lent.{laidOver}
-use Rattle.filling.proofs.Laying.{lent-part, laid-part-back}
+use Rattle.raising.specs.Parts.{laidOver}
+use Rattle.raising.proofs.Laying.{lent-part, laid-part-back}
 use Rattle.sources.proofs.PointSets.{in-left, in-right}
 use Rattle.tables.specs.Cells.{same}
 use Rattle.tables.specs.Ready.{rowOf}

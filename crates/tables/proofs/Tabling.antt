@@ -16,8 +16,9 @@ use Rattle.plan.proofs.Ranges.{WellFormed, accepted-well-formed}
 use Rattle.rules.specs.Tables.{next, part}
 use Rattle.rules.proofs.Next.{next-is}
 use Rattle.rules.proofs.ShapeLaws.{row-in}
-use Rattle.filling.specs.Lent.{AtMost, Lent, laidOver}
-use Rattle.filling.proofs.Laying.{laid-more, lent-part, laid-part-back}
+use Rattle.raising.specs.Parts.{AtMost, laidOver}
+use Rattle.filling.specs.Lent.{Lent}
+use Rattle.raising.proofs.Laying.{laid-more, lent-part, laid-part-back}
 use Rattle.sources.specs.Sources.{Settled}
 use Rattle.tables.specs.Cells.{same, anyAbove}
 use Rattle.tables.proofs.Comparing.{same-eq, none-above, some-above}

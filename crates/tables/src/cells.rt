@@ -5,7 +5,7 @@ ghost use Prim.Native.Nat.{ℕ, _+_, _*_, _<_, _≤_};
 ghost use lib.Dec.{T as Is};
 ghost use lib.ListN.{length, take, replicate};
 ghost use Rattle.plan.specs.LinkSet.{contains};
-ghost use Rattle.filling.specs.Lent.{laidOver};
+ghost use Rattle.raising.specs.Parts.{laidOver};
 ghost use Rattle.tables.specs.Cells.{same, anyAbove};
 ghost use Rattle.tables.specs.Ready.{rowOf};
 

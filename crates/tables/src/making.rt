@@ -11,7 +11,8 @@ ghost use Rattle.plan.specs.Label.{Marks};
 ghost use Rattle.plan.specs.Plan.{width as widthOf, cells as cellsOf};
 ghost use Rattle.plan.specs.Layout.{planOf};
 ghost use Rattle.rules.specs.Tables.{next, part as partOf};
-ghost use Rattle.filling.specs.Lent.{AtMost, Lent, laidOver};
+ghost use Rattle.raising.specs.Parts.{AtMost, laidOver};
+ghost use Rattle.filling.specs.Lent.{Lent};
 ghost use Rattle.sources.specs.Sources.{Sources, Settled};
 ghost use Rattle.tables.specs.Ready.{Ready, Tracked};
 

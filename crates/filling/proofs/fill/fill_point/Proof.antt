@@ -6,7 +6,7 @@ use Rattle.plan.specs.Layout.{planOf}
 use Rattle.plan.proofs.Ranges.{accepted-well-formed, accepted-bounded}
 use Rattle.rules.proofs.ShapeLaws.{row-in}
 use Rattle.rules.proofs.ShapeWhole.{fill-by}
-use Rattle.filling.specs.Lent.{laidOver}
+use Rattle.raising.specs.Parts.{laidOver}
 use Rattle.filling.proofs.Lending.{lent-on}
 use borrow.Author.Needs.{needs}
 use Rattle.filling.proofs.fill.fill_point.Statement.{statement}

@@ -5,7 +5,7 @@ use Rattle.plan.specs.Layout.{planOf}
 use Rattle.plan.proofs.Ranges.{accepted-well-formed}
 use Rattle.rules.proofs.ShapeLaws.{remove-by}
 use Rattle.filling.proofs.Lending.{remove-lent}
-use Rattle.filling.proofs.Runs.{digit-run}
+use Rattle.raising.proofs.Runs.{digit-run}
 use borrow.Author.Needs.{needs}
 use Rattle.filling.proofs.fill.literal_in.Statement.{statement}
 use Rattle.filling.proofs.fill.literal_in.Tie as tie

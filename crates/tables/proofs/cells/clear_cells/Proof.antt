@@ -5,8 +5,8 @@ use native.Mathlib.Omega.{arith}
 use lib.ListN.{length, replicate, length-set}
 use denote.Ref.{now}
 use borrow.Author.Needs.{needs}
-use Rattle.filling.specs.Lent.{laidOver}
-use Rattle.filling.proofs.Laying.{laid-none}
+use Rattle.raising.specs.Parts.{laidOver}
+use Rattle.raising.proofs.Laying.{laid-none}
 use Rattle.tables.proofs.Tabling.{laid-cleared}
 use Rattle.tables.proofs.cells.clear_cells.Statement.{statement}
 use Rattle.tables.proofs.cells.clear_cells.Tie as tie

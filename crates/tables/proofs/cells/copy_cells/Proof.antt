@@ -6,8 +6,8 @@ use lib.ListN.{length, getD, set, length-set}
 use mathlib.Core.List.{List}
 use denote.Ref.{now}
 use borrow.Author.Needs.{needs}
-use Rattle.filling.specs.Lent.{laidOver}
-use Rattle.filling.proofs.Laying.{laid-none, laid-more}
+use Rattle.raising.specs.Parts.{laidOver}
+use Rattle.raising.proofs.Laying.{laid-none, laid-more}
 use Rattle.tables.proofs.cells.copy_cells.Statement.{statement}
 use Rattle.tables.proofs.cells.copy_cells.Tie as tie
 

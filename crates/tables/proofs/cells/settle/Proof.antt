@@ -8,8 +8,8 @@ use lib.ListN.{length}
 use denote.Ref.{now}
 use borrow.Author.Needs.{needs}
 use Rattle.plan.specs.LinkSet.{contains}
-use Rattle.filling.specs.Lent.{laidOver}
-use Rattle.filling.proofs.Laying.{laid-none}
+use Rattle.raising.specs.Parts.{laidOver}
+use Rattle.raising.proofs.Laying.{laid-none}
 use Rattle.tables.specs.Ready.{rowOf}
 use Rattle.tables.proofs.Settling.{settled-more}
 use Rattle.tables.proofs.Tabling.{row-within, row-end}

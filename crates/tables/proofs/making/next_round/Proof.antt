@@ -11,8 +11,8 @@ use Rattle.plan.specs.Plan.{cells}
 use Rattle.plan.specs.Layout.{planOf}
 use Rattle.plan.proofs.Ranges.{sizes-few}
 use Rattle.rules.specs.Tables.{next}
-use Rattle.filling.specs.Lent.{laidOver}
-use Rattle.filling.proofs.Laying.{laid-none}
+use Rattle.raising.specs.Parts.{laidOver}
+use Rattle.raising.proofs.Laying.{laid-none}
 use Rattle.tables.proofs.Tabling.{point-within, cut-length, point-lent, point-level, cut-settled, round-more}
 use Rattle.tables.proofs.making.next_round.Statement.{statement}
 use Rattle.tables.proofs.making.next_round.Tie as tie
