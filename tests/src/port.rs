@@ -221,15 +221,14 @@ mod plan {
     // The table of marks: 1 for a label byte none of whose four base-4 digits is 3, else 0.
     mod marks {
         const PLAIN: [u8; 256] = [
-            1, 1, 1, 0, 1, 1, 1, 0, 1, 1, 1, 0, 0, 0, 0, 0, 1, 1, 1, 0, 1, 1, 1, 0, 1, 1, 1, 0, 0,
-            0, 0, 0, 1, 1, 1, 0, 1, 1, 1, 0, 1, 1, 1, 0, 0, 0, 0, 0, 0, 0, 0, 0, 0, 0, 0, 0, 0, 0,
-            0, 0, 0, 0, 0, 0, 1, 1, 1, 0, 1, 1, 1, 0, 1, 1, 1, 0, 0, 0, 0, 0, 1, 1, 1, 0, 1, 1, 1,
-            0, 1, 1, 1, 0, 0, 0, 0, 0, 1, 1, 1, 0, 1, 1, 1, 0, 1, 1, 1, 0, 0, 0, 0, 0, 0, 0, 0, 0,
-            0, 0, 0, 0, 0, 0, 0, 0, 0, 0, 0, 0, 1, 1, 1, 0, 1, 1, 1, 0, 1, 1, 1, 0, 0, 0, 0, 0, 1,
-            1, 1, 0, 1, 1, 1, 0, 1, 1, 1, 0, 0, 0, 0, 0, 1, 1, 1, 0, 1, 1, 1, 0, 1, 1, 1, 0, 0, 0,
-            0, 0, 0, 0, 0, 0, 0, 0, 0, 0, 0, 0, 0, 0, 0, 0, 0, 0, 0, 0, 0, 0, 0, 0, 0, 0, 0, 0, 0,
-            0, 0, 0, 0, 0, 0, 0, 0, 0, 0, 0, 0, 0, 0, 0, 0, 0, 0, 0, 0, 0, 0, 0, 0, 0, 0, 0, 0, 0,
-            0, 0, 0, 0, 0, 0, 0, 0, 0, 0, 0, 0, 0, 0, 0, 0, 0, 0, 0, 0, 0, 0, 0,
+            1, 1, 1, 0, 1, 1, 1, 0, 1, 1, 1, 0, 0, 0, 0, 0, 1, 1, 1, 0, 1, 1, 1, 0, 1, 1, 1, 0, 0, 0, 0, 0,
+            1, 1, 1, 0, 1, 1, 1, 0, 1, 1, 1, 0, 0, 0, 0, 0, 0, 0, 0, 0, 0, 0, 0, 0, 0, 0, 0, 0, 0, 0, 0, 0,
+            1, 1, 1, 0, 1, 1, 1, 0, 1, 1, 1, 0, 0, 0, 0, 0, 1, 1, 1, 0, 1, 1, 1, 0, 1, 1, 1, 0, 0, 0, 0, 0,
+            1, 1, 1, 0, 1, 1, 1, 0, 1, 1, 1, 0, 0, 0, 0, 0, 0, 0, 0, 0, 0, 0, 0, 0, 0, 0, 0, 0, 0, 0, 0, 0,
+            1, 1, 1, 0, 1, 1, 1, 0, 1, 1, 1, 0, 0, 0, 0, 0, 1, 1, 1, 0, 1, 1, 1, 0, 1, 1, 1, 0, 0, 0, 0, 0,
+            1, 1, 1, 0, 1, 1, 1, 0, 1, 1, 1, 0, 0, 0, 0, 0, 0, 0, 0, 0, 0, 0, 0, 0, 0, 0, 0, 0, 0, 0, 0, 0,
+            0, 0, 0, 0, 0, 0, 0, 0, 0, 0, 0, 0, 0, 0, 0, 0, 0, 0, 0, 0, 0, 0, 0, 0, 0, 0, 0, 0, 0, 0, 0, 0,
+            0, 0, 0, 0, 0, 0, 0, 0, 0, 0, 0, 0, 0, 0, 0, 0, 0, 0, 0, 0, 0, 0, 0, 0, 0, 0, 0, 0, 0, 0, 0,
             0, // 255: all four digits unknown
         ];
 
@@ -309,13 +308,7 @@ mod rules {
             is_plain(marks, place & mask)
         }
 
-        pub fn propagated(
-            marks: &[u8; 256],
-            by: Propagator,
-            mask: usize,
-            place: usize,
-            wait: u64,
-        ) -> u64 {
+        pub fn propagated(marks: &[u8; 256], by: Propagator, mask: usize, place: usize, wait: u64) -> u64 {
             if !is_line(place, wait) {
                 return 0;
             }
@@ -422,14 +415,7 @@ mod raising {
 
         // Rules 4 and 6, from one line (its place cleared) and all cells of the other point.
         // In each block only the first places have no bit of the mask: the others give nothing, and are passed over.
-        fn remove_one(
-            first: &[u32],
-            part: &mut [u32],
-            width: usize,
-            by: Remover,
-            place: usize,
-            wait: u64,
-        ) {
+        fn remove_one(first: &[u32], part: &mut [u32], width: usize, by: Remover, place: usize, wait: u64) {
             let base = by.other * width;
             let block = by.mask + by.low;
             let mut start = 0;
@@ -440,14 +426,7 @@ mod raising {
         }
 
         // The same from any line: nothing where it waits 0 or has no bit of the mask.
-        fn remove_cell(
-            first: &[u32],
-            part: &mut [u32],
-            width: usize,
-            by: Remover,
-            place: usize,
-            wait: u64,
-        ) {
+        fn remove_cell(first: &[u32], part: &mut [u32], width: usize, by: Remover, place: usize, wait: u64) {
             if wait == 0 {
                 return;
             }
@@ -498,11 +477,11 @@ mod filling {
         use super::super::plan::points;
         use super::super::plan::propositions;
         use super::super::plan::width as point_width;
-        use super::super::rules::Propagator;
         use super::super::raising::clear_in;
         use super::super::raising::copy_part;
         use super::super::raising::propagate_in;
         use super::super::raising::remove_in;
+        use super::super::rules::Propagator;
         use super::rows::digit_mask;
         use super::rows::edge_row;
         use super::rows::label_mask;
@@ -555,13 +534,7 @@ mod filling {
             mask: usize,
             y: usize,
         ) {
-            let by = Propagator {
-                from: y,
-                avoid: 0,
-                add: 0,
-                up: horizon,
-                down: 0,
-            };
+            let by = Propagator { from: y, avoid: 0, add: 0, up: horizon, down: 0 };
             propagate_in(marks, first, part, width, mask, by);
         }
 
@@ -634,14 +607,7 @@ mod filling {
         }
 
         // Rule 4 of link i.
-        fn letter_in(
-            plan: &[u8],
-            first: &[u32],
-            part: &mut [u32],
-            width: usize,
-            x: usize,
-            i: usize,
-        ) {
+        fn letter_in(plan: &[u8], first: &[u32], part: &mut [u32], width: usize, x: usize, i: usize) {
             let by = letter_row(plan, i);
             remove_in(first, part, width, by, x);
         }
@@ -678,14 +644,7 @@ mod filling {
         }
 
         // Rule 5 of proposition j, if its observing point is x.
-        fn own_literal_in(
-            plan: &[u8],
-            first: &[u32],
-            part: &mut [u32],
-            width: usize,
-            x: usize,
-            j: usize,
-        ) {
+        fn own_literal_in(plan: &[u8], first: &[u32], part: &mut [u32], width: usize, x: usize, j: usize) {
             if observer(plan, j) != x {
                 return;
             }
@@ -693,27 +652,13 @@ mod filling {
         }
 
         // Rule 6 of proposition j.
-        fn literal_in(
-            plan: &[u8],
-            first: &[u32],
-            part: &mut [u32],
-            width: usize,
-            x: usize,
-            j: usize,
-        ) {
+        fn literal_in(plan: &[u8], first: &[u32], part: &mut [u32], width: usize, x: usize, j: usize) {
             let by = literal_row(plan, j);
             remove_in(first, part, width, by, x);
         }
 
         // Rules 5 and 6 of proposition j.
-        fn fill_proposition(
-            plan: &[u8],
-            first: &[u32],
-            part: &mut [u32],
-            width: usize,
-            x: usize,
-            j: usize,
-        ) {
+        fn fill_proposition(plan: &[u8], first: &[u32], part: &mut [u32], width: usize, x: usize, j: usize) {
             own_literal_in(plan, first, part, width, x, j);
             literal_in(plan, first, part, width, x, j);
         }
@@ -814,22 +759,12 @@ mod filling {
         // Rule 4 of link i.
         pub fn letter_row(plan: &[u8], i: usize) -> Remover {
             let bit = link_bit(plan, i);
-            Remover {
-                other: link_activation(plan, i),
-                mask: bit,
-                low: bit,
-                add: link_least(plan, i),
-            }
+            Remover { other: link_activation(plan, i), mask: bit, low: bit, add: link_least(plan, i) }
         }
 
         // Rule 6 of proposition j. Nothing is added, so a starting line of the observing point gives wait 0, which is nothing.
         pub fn literal_row(plan: &[u8], j: usize) -> Remover {
-            Remover {
-                other: observer(plan, j),
-                mask: digit_mask(j),
-                low: digit_bit(j),
-                add: 0,
-            }
+            Remover { other: observer(plan, j), mask: digit_mask(j), low: digit_bit(j), add: 0 }
         }
     }
 }
@@ -1337,10 +1272,7 @@ mod rounds {
             let width = point_width(plan);
             next_round(plan, marks, horizon, first, second, sources, changed);
             let ended = stops(first, second, n, width);
-            MadeRound {
-                stops: ended,
-                changed: settle(second, first, n, width),
-            }
+            MadeRound { stops: ended, changed: settle(second, first, n, width) }
         }
 
         // The answer of the round that stopped.
