@@ -5,6 +5,12 @@
  * writes overlaps no other slice of that call. A call touches nothing outside the lengths, keeps no pointer, allocates
  * nothing and always returns. There is no state between calls, so calls on memory of their own may run side by side.
  *
+ * Cells. A plan has points x 2^links x 4^facts cells. The wait of a point under a link set and a label stands in the
+ * cell (point x 2^links + set) x 4^facts + label; 0 means that none was found.
+ *
+ * Time. A check makes rounds until it can tell, and some plans need millions. A caller that cannot wait sets a smaller
+ * limit and may then be told SULGRACH_SPENT.
+ *
  * The codes of sulgrach_check and sulgrach_list:
  *
  *     SULGRACH_KEPT              0   the panel can keep the plan
@@ -52,9 +58,17 @@ extern "C" {
 /* No listing is longer, in bytes. */
 #define SULGRACH_LISTING 57346
 
-/* The check of a plan, with two tables and a limit of rounds; the answer is a code.
- * Unless refused, the first cells of both tables hold the waits of the last round, their later entries are untouched,
- * and rounds[0], if there is one, is the number of rounds. Where refused nothing is written. */
+/* Each call takes less stack than this, in bytes. Measured, not proved: a call itself took up to 1,760, and the first of
+ * a program up to 4,552 where the dynamic linker looks for memset only then (-z lazy). */
+#define SULGRACH_STACK 8192
+
+/* The check of a plan, with two tables and a limit of rounds; the answer is a code. What is written:
+ *
+ *     kept, broken, spent   the plan's cells of `first` and of `second`: both hold the waits of the last round;
+ *                           rounds[0], if there is one: the number of rounds
+ *     refused               nothing
+ *
+ * Entries of the tables past the plan's cells are never written, nor are those of `rounds` past the first. */
 uint32_t sulgrach_check(
     const uint8_t *plan, size_t plan_length,
     uint32_t *first, size_t first_length,
@@ -62,11 +76,19 @@ uint32_t sulgrach_check(
     uint32_t limit,
     uint32_t *rounds, size_t rounds_length);
 
-/* The check, and where the plan is broken the listing that shows it, in `out`; the answer is a code.
- * Both tables are as after the check, also where refused for the reason 7. Unless refused, numbers[0], if there is one,
- * is the number of rounds. Where broken, numbers[1], if there is one, is the listing's length in bytes, `out` past that
- * length is untouched, the first cells of `index` hold the number of each cell's last line, its later entries are
- * untouched, and sulgrach_replay accepts the listing. Where not broken `out` and `index` are untouched. */
+/* The check, and where the plan is broken the listing that shows it; the answer is a code. What is written:
+ *
+ *     kept, spent           `first`, `second` and numbers[0], as the check writes its tables and rounds[0]
+ *     broken                the same; numbers[1], if there is one: the listing's length in bytes; so many bytes of `out`:
+ *                           the listing, which sulgrach_replay accepts; the plan's cells of `index`: see below
+ *     refused, 7            `first` and `second`, as the check writes them
+ *     refused, 1 to 6       nothing, also where only `index` is too short
+ *
+ * Nothing else is written: no entry of the three tables past the plan's cells, none of `numbers` past the second, and no
+ * byte of `out` past the listing.
+ *
+ * `index` then holds for each cell the number that its last line has as a parent: the number of points plus the line's
+ * number, counted from 0. A cell without a line has X for point X with link set 0 and label 0, and else 0. */
 uint32_t sulgrach_list(
     const uint8_t *plan, size_t plan_length,
     uint32_t *first, size_t first_length,
@@ -77,7 +99,7 @@ uint32_t sulgrach_list(
     uint32_t *numbers, size_t numbers_length);
 
 /* Replay of a listing: 0 where its lines derive from the plan that the first alarm waits for itself, so that the plan is
- * broken; else the reason, as N and not as 100+N: 1 to 5 for the plan, 8 to 11 for the listing. */
+ * broken; else the reason, as N and not as 100+N: 1 to 5 for the plan, 8 to 11 for the listing. Nothing is written. */
 uint32_t sulgrach_replay(
     const uint8_t *plan, size_t plan_length,
     const uint8_t *listing, size_t listing_length);

@@ -1,46 +1,43 @@
-//! The library under test, through its C interface.
+//! The library under test, through its C interface, as the C header declares
+//! it (`build.rs`).
 
-use std::ffi::c_uint;
-
-extern "C" {
-    fn sulgrach_replay(plan: *const u8, plan_len: usize, listing: *const u8, listing_len: usize) -> c_uint;
-
-    fn sulgrach_check(
-        plan: *const u8,
-        plan_len: usize,
-        first: *mut u32,
-        first_len: usize,
-        second: *mut u32,
-        second_len: usize,
-        limit: u32,
-        rounds: *mut u32,
-        rounds_len: usize,
-    ) -> c_uint;
-
-    fn sulgrach_list(
-        plan: *const u8,
-        plan_len: usize,
-        first: *mut u32,
-        first_len: usize,
-        second: *mut u32,
-        second_len: usize,
-        limit: u32,
-        index: *mut u16,
-        index_len: usize,
-        out: *mut u8,
-        out_len: usize,
-        numbers: *mut u32,
-        numbers_len: usize,
-    ) -> c_uint;
+/// The header's constants and calls.
+pub mod header {
+    include!(concat!(env!("OUT_DIR"), "/header.rs"));
 }
 
-pub const KEPT: u32 = 0;
-pub const BROKEN: u32 = 1;
-pub const SPENT: u32 = 2;
+use header::{sulgrach_check, sulgrach_list, sulgrach_replay};
+
+// The types of the calls as they are relied on here. Types of functions must
+// agree exactly, so that a `const` too many or too few in the header does not
+// go unseen.
+type Check =
+    unsafe extern "C" fn(*const u8, usize, *mut u32, usize, *mut u32, usize, u32, *mut u32, usize) -> u32;
+type List = unsafe extern "C" fn(
+    *const u8,
+    usize,
+    *mut u32,
+    usize,
+    *mut u32,
+    usize,
+    u32,
+    *mut u16,
+    usize,
+    *mut u8,
+    usize,
+    *mut u32,
+    usize,
+) -> u32;
+type Replay = unsafe extern "C" fn(*const u8, usize, *const u8, usize) -> u32;
+const _: (Check, List, Replay) = (sulgrach_check, sulgrach_list, sulgrach_replay);
+
+pub const KEPT: u32 = header::SULGRACH_KEPT;
+pub const BROKEN: u32 = header::SULGRACH_BROKEN;
+pub const SPENT: u32 = header::SULGRACH_SPENT;
 
 /// The code of a refusal by check or listing.
 pub fn refused(refusal: u32) -> u32 {
-    100 + refusal
+    header::SULGRACH_REFUSED + refusal
 }
 
 /// 0, or the number of the refusal.

@@ -1,0 +1,87 @@
+/* Prints how much stack a call of the library takes.
+ *
+ *     stack check|list|replay LIMIT PLAN...
+ *
+ * The call runs on a stack of its own, filled with a pattern beforehand; afterwards the pattern is gone as far down as
+ * the call went. For each plan a line: the call's code, bytes of stack. The caller's arguments and its way into the call
+ * are counted too. */
+#include <stdio.h>
+#include <stdlib.h>
+#include <string.h>
+#include <ucontext.h>
+#include "sulgrach.h"
+
+#define STACK (1024 * 1024)
+#define PATTERN 0xA5
+
+static uint32_t first[SULGRACH_CELLS], second[SULGRACH_CELLS], numbers[2], limit, code;
+static uint16_t lines[SULGRACH_CELLS];
+static uint8_t plan[801], out[SULGRACH_LISTING], stack[STACK];
+static size_t length;
+static ucontext_t outside, inside;
+
+static void check(void) {
+    code = sulgrach_check(plan, length, first, SULGRACH_CELLS, second, SULGRACH_CELLS, limit, numbers, 2);
+}
+
+static void list(void) {
+    code = sulgrach_list(plan, length, first, SULGRACH_CELLS, second, SULGRACH_CELLS, limit,
+        lines, SULGRACH_CELLS, out, sizeof out, numbers, 2);
+}
+
+/* Of the listing that was made before. */
+static void replay(void) {
+    code = sulgrach_replay(plan, length, out, numbers[1]);
+}
+
+/* Not by memset: the call is to be the first to use it, since finding it then takes stack too. */
+static void paint(void) {
+    volatile uint8_t *bytes = stack;
+    for (size_t i = 0; i < STACK; i++)
+        bytes[i] = PATTERN;
+}
+
+static size_t painted(void) {
+    size_t count = 0;
+    while (count < STACK && stack[count] == PATTERN)
+        count++;
+    return count;
+}
+
+static size_t measure(void call(void)) {
+    paint();
+    if (getcontext(&inside) != 0)
+        abort();
+    inside.uc_stack.ss_sp = stack;
+    inside.uc_stack.ss_size = STACK;
+    inside.uc_link = &outside;
+    makecontext(&inside, call, 0);
+    if (swapcontext(&outside, &inside) != 0)
+        abort();
+    return STACK - painted();
+}
+
+int main(int count, char **words) {
+    if (count < 4)
+        return 2;
+    limit = (uint32_t)strtoul(words[2], NULL, 10);
+    for (int i = 3; i < count; i++) {
+        size_t used;
+        FILE *file = fopen(words[i], "rb");
+        if (file == NULL)
+            return 2;
+        length = fread(plan, 1, sizeof plan, file);
+        fclose(file);
+        numbers[1] = 0;
+        if (strcmp(words[1], "check") == 0) {
+            used = measure(check);
+        } else if (strcmp(words[1], "list") == 0) {
+            used = measure(list);
+        } else {
+            list();
+            used = measure(replay);
+        }
+        printf("%u %zu\n", (unsigned)code, used);
+    }
+    return 0;
+}

@@ -1,0 +1,26 @@
+//! The C header: its constants are those of document 01. Its types are what
+//! the library is called by in every other test.
+
+use sulgrach_tests::library::header::{CALLS, CONSTANTS, SULGRACH_STACK};
+use sulgrach_tests::second::{listing_bytes, EVERY_PLAN, MOST_CELLS, MOST_LINES};
+
+#[test]
+fn every_constant() {
+    let expected = [
+        ("SULGRACH_KEPT", 0),
+        ("SULGRACH_BROKEN", 1),
+        ("SULGRACH_SPENT", 2),
+        ("SULGRACH_REFUSED", 100),
+        ("SULGRACH_CELLS", MOST_CELLS as u32),
+        ("SULGRACH_ROUNDS", EVERY_PLAN),
+        ("SULGRACH_LISTING", listing_bytes(MOST_LINES) as u32),
+        // No figure of document 01: `stack.rs` measures it.
+        ("SULGRACH_STACK", SULGRACH_STACK),
+    ];
+    assert_eq!(CONSTANTS, expected);
+}
+
+#[test]
+fn every_call() {
+    assert_eq!(CALLS, ["sulgrach_check", "sulgrach_list", "sulgrach_replay"]);
+}

@@ -1,0 +1,106 @@
+//! The stack that each call takes: below the bound that the header states, on
+//! plans of every size. `stack.c` measures it.
+
+use std::fs;
+use std::path::{Path, PathBuf};
+use std::process::Command;
+use sulgrach_tests::generate::faults::{faulty, FAULTS};
+use sulgrach_tests::generate::{samples, slow_cycle, Class, Random};
+use sulgrach_tests::library::header::SULGRACH_STACK;
+use sulgrach_tests::library::{self, BROKEN, KEPT, SPENT};
+use sulgrach_tests::second;
+
+/// Enough rounds for the plans of the repository, and few enough for plans of
+/// many cells.
+const LIMIT: u32 = 40;
+
+fn tests_directory() -> PathBuf {
+    PathBuf::from(env!("CARGO_MANIFEST_DIR"))
+}
+
+/// Compiles `stack.c`. A linker with `lazy` lets `memset`, the one function
+/// that the library needs, be found at its first use and not before.
+fn compile(binding: &str) -> PathBuf {
+    let program = Path::new(env!("CARGO_TARGET_TMPDIR")).join(format!("stack-{binding}"));
+    let status = Command::new("gcc")
+        .args(["-O2", "-Wall", "-Wextra", "-Werror", &format!("-Wl,-z,{binding}"), "-I"])
+        .arg(tests_directory().join("../include"))
+        .arg(tests_directory().join("stack.c"))
+        .arg(env!("SULGRACH_LIBRARY"))
+        .arg("-o")
+        .arg(&program)
+        .status()
+        .expect("gcc runs");
+    assert!(status.success(), "gcc: {status}");
+    program
+}
+
+/// Files of plans: those of the repository, generated ones, wide ones with
+/// links and facts, and refused ones.
+fn plans() -> Vec<PathBuf> {
+    let mut files: Vec<PathBuf> = fs::read_dir(tests_directory().join("../plans"))
+        .expect("the folder plans")
+        .map(|entry| entry.expect("a file").path())
+        .filter(|path| path.extension().is_some_and(|extension| extension == "plan"))
+        .collect();
+    files.sort();
+    let mut plans: Vec<Vec<u8>> = vec![slow_cycle(32, 16, 1_000_000, false)];
+    for (class, count) in
+        [(Class::Decisive, 20), (Class::Mixed, 20), (Class::Extreme, 10), (Class::Dense, 12)]
+    {
+        plans.extend(samples(class, 5_000_000, count).map(|sample| sample.plan));
+    }
+    plans.extend(FAULTS.iter().map(|fault| faulty(&mut Random::new(1), fault)));
+    let wide = plans
+        .iter()
+        .filter_map(|plan| second::read(plan).ok())
+        .filter(|plan| plan.cells() > 15_000 && !plan.links.is_empty() && !plan.observing.is_empty());
+    assert!(wide.count() >= 10);
+    for (number, plan) in plans.iter().enumerate() {
+        let file = Path::new(env!("CARGO_TARGET_TMPDIR")).join(format!("stack-{number}.plan"));
+        fs::write(&file, plan).expect("a plan is written");
+        files.push(file);
+    }
+    files
+}
+
+/// Codes and bytes of stack of one call, for each plan.
+fn measure(program: &Path, call: &str, files: &[PathBuf]) -> Vec<(u32, u32)> {
+    let done = Command::new(program).arg(call).arg(LIMIT.to_string()).args(files).output().expect("it runs");
+    assert!(done.status.success(), "{call}: {}", done.status);
+    let text = String::from_utf8(done.stdout).expect("text");
+    let number = |word: &str| word.parse().expect("a number");
+    let lines = text.lines().map(|line| line.split_once(' ').expect("two numbers"));
+    let measured: Vec<(u32, u32)> = lines.map(|(code, used)| (number(code), number(used))).collect();
+    assert_eq!(measured.len(), files.len(), "{call}");
+    measured
+}
+
+#[test]
+fn each_call_takes_less_than_the_header_says() {
+    let files = plans();
+    for binding in ["now", "lazy"] {
+        let program = compile(binding);
+        for call in ["check", "list", "replay"] {
+            let measured = measure(&program, call, &files);
+            let most = measured.iter().map(|&(_, used)| used).max().expect("some plans");
+            println!("{call}, memset bound {binding}: at most {most} bytes of stack, {} plans", files.len());
+            for ((code, used), file) in measured.iter().zip(&files) {
+                // A call takes some; none seen would be a fault of the measurement.
+                assert!(*used > 100, "{call}, code {code}: only {used} bytes, {}", file.display());
+                assert!(*used < SULGRACH_STACK, "{call}, code {code}: {used} bytes, {}", file.display());
+            }
+            let expected = match call {
+                "check" => vec![KEPT, BROKEN, SPENT, library::refused(1), library::refused(5)],
+                "list" => vec![KEPT, BROKEN, SPENT, library::refused(1), library::refused(7)],
+                _ => vec![0, 1, 5, 8],
+            };
+            for code in expected {
+                assert!(
+                    measured.iter().any(|&(seen, _)| seen == code),
+                    "{call}: no plan with the code {code}"
+                );
+            }
+        }
+    }
+}
