@@ -4,6 +4,7 @@
 use crate::generate::{hex, Random};
 use crate::library;
 use crate::second::{self, Answer, Line, Listed, Refusal, Verdict};
+use std::cell::Cell;
 use std::fmt::Display;
 
 /// The lengths of the memory lent to a call.
@@ -22,6 +23,38 @@ impl Lengths {
         Lengths { first: more(cells), second: more(cells), index: more(cells), output: more(output) }
     }
 }
+
+// ------------------------------------------------------------- counting
+
+/// How many calls were made both ways.
+#[derive(Clone, Copy, Default)]
+struct Calls {
+    checks: u64,
+    listings: u64,
+    replays: u64,
+}
+
+thread_local! {
+    /// Those of the test that runs on this thread.
+    static CALLS: Cell<Calls> = const { Cell::new(Calls { checks: 0, listings: 0, replays: 0 }) };
+}
+
+fn add(change: impl FnOnce(&mut Calls)) {
+    CALLS.with(|cell| {
+        let mut calls = cell.get();
+        change(&mut calls);
+        cell.set(calls);
+    });
+}
+
+/// Prints how many calls a test has compared; it ends with this. The count
+/// starts again from 0, since the next test may run on the same thread.
+pub fn print_calls(test: &str) {
+    let Calls { checks, listings, replays } = CALLS.take();
+    println!("{test}: compared {checks} checks, {listings} listings, {replays} replays");
+}
+
+// ------------------------------------------------------------- comparing
 
 /// The output that serves every listing.
 pub const LONGEST_LISTING: usize = 2 + 14 * second::MOST_LINES;
@@ -76,6 +109,7 @@ pub fn check(random: &mut Random, plan: &[u8], lengths: Lengths, limit: u32, sam
     same("count of rounds", &rounds, &rounds_expected, &case);
     same("first table", &first, &first_expected, &case);
     same("second table", &second, &second_expected, &case);
+    add(|calls| calls.checks += 1);
 }
 
 fn check_code(expected: &Result<Answer, Refusal>) -> u32 {
@@ -126,6 +160,7 @@ pub fn list(
     let lines = broken_lines(&expected).unwrap_or(&[]);
     let length = if lines.is_empty() { 0 } else { second::listing_bytes(lines.len()) };
     same("output past the listing", &output[length..], &before[length..], &case);
+    add(|calls| calls.listings += 1);
     if length == 0 {
         return None;
     }
@@ -178,6 +213,7 @@ fn same_lines(listing: &[u8], lines: &[Line], case: &dyn Display) {
 fn replays_accept(plan: &[u8], listing: &[u8], case: &dyn Display) {
     assert_eq!(second::replay(plan, listing), 0, "the second replay of listing {}; {case}", hex(listing));
     assert_eq!(library::replay(plan, listing), 0, "the library's replay of listing {}; {case}", hex(listing));
+    add(|calls| calls.replays += 1);
 }
 
 /// Replays a listing both ways; returns what both answer.
@@ -190,5 +226,6 @@ pub fn replay(plan: &[u8], listing: &[u8], sample: &dyn Display) -> Refusal {
         "replay of the library and of the second checker; listing {}; {sample}",
         hex(listing)
     );
+    add(|calls| calls.replays += 1);
     expected
 }

@@ -49,6 +49,7 @@ fn answers_and_tables() {
             compare::list(&mut random, &bytes, lengths, limit, &name);
         }
     }
+    compare::print_calls("answers_and_tables");
 }
 
 #[test]
@@ -68,4 +69,5 @@ fn the_listing_of_c2() {
     let listing = compare::list(&mut random, &C2, lengths, EVERY_PLAN, &"c2");
     assert_eq!(listing, Some(C2_LISTING.to_vec()));
     assert_eq!(compare::replay(&C2, &C2_LISTING, &"c2"), 0);
+    compare::print_calls("the_listing_of_c2");
 }

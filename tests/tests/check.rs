@@ -12,6 +12,7 @@ fn small_and_decisive_plans() {
             at_every_limit(&sample, 5_000);
         }
     }
+    compare::print_calls("small_and_decisive_plans");
 }
 
 #[test]
@@ -19,6 +20,7 @@ fn mixed_plans() {
     for sample in samples(Class::Mixed, 0, times(1_200)) {
         at_every_limit(&sample, 150);
     }
+    compare::print_calls("mixed_plans");
 }
 
 #[test]
@@ -26,6 +28,7 @@ fn extreme_plans() {
     for sample in samples(Class::Extreme, 0, times(100)) {
         at_every_limit(&sample, 60);
     }
+    compare::print_calls("extreme_plans");
 }
 
 #[test]
@@ -33,6 +36,7 @@ fn slow_plans() {
     for sample in samples(Class::Slow, 0, times(100)) {
         at_every_limit(&sample, 20_000);
     }
+    compare::print_calls("slow_plans");
 }
 
 #[test]
@@ -40,6 +44,7 @@ fn plans_near_the_most_cells() {
     for sample in samples(Class::Dense, 0, times(24)) {
         at_every_limit(&sample, 5);
     }
+    compare::print_calls("plans_near_the_most_cells");
 }
 
 /// Compares at limits 0, 1, R − 1, R, and the one that serves every plan, at

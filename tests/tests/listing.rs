@@ -13,6 +13,7 @@ fn small_and_decisive_plans() {
             in_every_way(&sample, 2_000);
         }
     }
+    compare::print_calls("small_and_decisive_plans");
 }
 
 #[test]
@@ -20,6 +21,7 @@ fn mixed_plans() {
     for sample in samples(Class::Mixed, 1_000_000, times(300)) {
         in_every_way(&sample, 120);
     }
+    compare::print_calls("mixed_plans");
 }
 
 #[test]
@@ -29,6 +31,7 @@ fn extreme_slow_and_dense_plans() {
             in_every_way(&sample, cap);
         }
     }
+    compare::print_calls("extreme_slow_and_dense_plans");
 }
 
 #[test]
@@ -41,6 +44,7 @@ fn listings_about_as_long_as_allowed() {
     for (points, longest, lines) in [(31, 1_057, 65_537), (16, 2_048, 65_539)] {
         with_lines(lines, &two_in_turns(points, longest, None));
     }
+    compare::print_calls("listings_about_as_long_as_allowed");
 }
 
 /// Points 1 and 2 wait for each other, so that each round raises one cell;

@@ -1,9 +1,9 @@
-//! The program as a process: plans on standard input, text on standard output.
-//! Its path is `SULGRACH_PROGRAM`, or else `target/bin/sulgrach` in the
-//! repository.
+//! The program as a process: plans on standard input, text on standard output,
+//! and the exit status, which is 0 for every answer. Its path is
+//! `SULGRACH_PROGRAM`, or else `target/bin/sulgrach` in the repository.
 
 use std::env;
-use std::fs;
+use std::fs::{self, File, OpenOptions};
 use std::io::{Read, Write};
 use std::os::unix::process::ExitStatusExt;
 use std::path::{Path, PathBuf};
@@ -22,16 +22,21 @@ fn repository() -> PathBuf {
     PathBuf::from(env!("CARGO_MANIFEST_DIR")).join("..")
 }
 
-fn start() -> Child {
-    let path = match env::var_os("SULGRACH_PROGRAM") {
+fn path() -> PathBuf {
+    match env::var_os("SULGRACH_PROGRAM") {
         Some(path) => PathBuf::from(path),
         None => repository().join("target/bin/sulgrach"),
-    };
-    Command::new(&path)
-        .stdin(Stdio::piped())
-        .stdout(Stdio::piped())
+    }
+}
+
+fn start_as(command: &mut Command) -> Child {
+    command
         .spawn()
-        .unwrap_or_else(|error| panic!("{}: {error}; name the program in SULGRACH_PROGRAM", path.display()))
+        .unwrap_or_else(|error| panic!("{}: {error}; name the program in SULGRACH_PROGRAM", path().display()))
+}
+
+fn start() -> Child {
+    start_as(Command::new(path()).stdin(Stdio::piped()).stdout(Stdio::piped()))
 }
 
 /// Waits for the process to end; ends it, and the test, if it does not.
@@ -50,7 +55,10 @@ fn wait(child: &mut Child) -> ExitStatus {
 /// What the program prints when its input comes in these pieces, with pauses
 /// between them.
 fn output(pieces: Vec<Vec<u8>>) -> String {
-    let mut child = start();
+    output_of(start(), pieces)
+}
+
+fn output_of(mut child: Child, pieces: Vec<Vec<u8>>) -> String {
     let mut input = child.stdin.take().expect("standard input");
     let writer = thread::spawn(move || {
         for (number, piece) in pieces.iter().enumerate() {
@@ -69,9 +77,12 @@ fn output(pieces: Vec<Vec<u8>>) -> String {
         stdout.read_to_string(&mut text).expect("text");
         text
     });
-    wait(&mut child);
+    let status = wait(&mut child);
     writer.join().expect("the writer ends");
-    reader.join().expect("the reader ends")
+    let text = reader.join().expect("the reader ends");
+    // 0 for every answer, refused too; a signal has no code.
+    assert_eq!(status.code(), Some(0), "exit status, {status}; it printed {text:?}");
+    text
 }
 
 fn output_at_once(input: &[u8]) -> String {
@@ -91,10 +102,11 @@ fn files_in_plans() {
         .collect();
     names.sort();
     assert!(names.len() >= 10, "only {} plans", names.len());
-    for name in names {
+    for name in &names {
         let expected = fs::read_to_string(name.with_extension("out")).expect("the text of each plan");
-        assert_eq!(output_at_once(&fs::read(&name).expect("a plan")), expected, "{}", name.display());
+        assert_eq!(output_at_once(&fs::read(name).expect("a plan")), expected, "{}", name.display());
     }
+    println!("files_in_plans: {} plans given to the program", names.len());
 }
 
 #[test]
@@ -106,15 +118,21 @@ fn generated_plans() {
         (Class::Extreme, 15),
         (Class::Slow, 15),
     ];
+    let (mut given, mut left_out) = (0, 0);
     for (class, count) in classes {
         for sample in samples(class, 3_000_000, times(count)) {
             let plan = second::read(&sample.plan).expect("an accepted plan");
             let answer = second::run(&plan, 2_000, |_, _| ());
-            if answer.verdict != Verdict::Spent {
+            if answer.verdict == Verdict::Spent {
+                left_out += 1;
+            } else {
                 assert_prints(&sample.plan, &second::answer_text(&plan, &answer));
+                given += 1;
             }
         }
     }
+    println!("generated_plans: {given} plans given to the program; {left_out} that take over 2,000 rounds were not");
+    assert!(given > 2 * left_out, "only {given} of {} plans", given + left_out);
 }
 
 #[test]
@@ -127,10 +145,12 @@ fn refused_plans() {
         let plan = faulty_many_times(&mut Random::new(seed));
         assert_prints(&plan, &second::program(&plan));
     }
+    println!("refused_plans: {} plans given to the program", FAULTS.len() as u64 + times(100));
 }
 
 #[test]
 fn input_in_pieces() {
+    let mut given = 0;
     for sample in samples(Class::Decisive, 3_100_000, times(10)) {
         let expected = second::program(&sample.plan);
         let mut random = Random::new(sample.seed);
@@ -145,8 +165,10 @@ fn input_in_pieces() {
             // An empty piece at the end: a pause before the input is closed.
             pieces.push(Vec::new());
             assert_eq!(output(pieces), expected, "{sample}");
+            given += 1;
         }
     }
+    println!("input_in_pieces: {given} inputs, three of each plan, given to the program");
 }
 
 /// 800 bytes, as 4 propositions, 4 links and 128 edges take. They would need 9
@@ -248,6 +270,39 @@ fn more_text_than_a_pipe_holds() {
     let expected = second::program(&plan);
     assert!(expected.len() > 65_536, "only {} bytes", expected.len());
     assert_prints(&plan, &expected);
+}
+
+/// The stack that README says is enough, in KiB.
+const STACK: u32 = 512;
+
+#[test]
+fn a_small_stack() {
+    let large = plan_of_much_text();
+    let small = fs::read(repository().join("plans/tower.plan")).expect("a plan");
+    for plan in [large, small] {
+        // The environment stands on the same stack.
+        let limited = format!("ulimit -s {STACK} && exec \"$0\"");
+        let mut command = Command::new("/bin/sh");
+        command.args(["-c", &limited]).arg(path()).env_clear().stdin(Stdio::piped()).stdout(Stdio::piped());
+        let printed = output_of(start_as(&mut command), vec![plan.clone()]);
+        assert_eq!(printed, second::program(&plan), "a stack of {STACK} KiB");
+    }
+}
+
+#[test]
+fn a_read_that_fails_ends_the_input() {
+    // A folder can be opened and not read.
+    let folder = File::open(repository()).expect("a folder");
+    let done = Command::new(path()).stdin(folder).output().expect("the program");
+    assert_eq!((done.status.code(), &done.stdout[..]), (Some(0), &b"refused 1\n"[..]));
+}
+
+#[test]
+fn a_full_disk_does_not_show_in_the_exit_status() {
+    let full = OpenOptions::new().write(true).open("/dev/full").expect("a device that is always full");
+    let plan = File::open(repository().join("plans/c1.plan")).expect("a plan");
+    let status = Command::new(path()).stdin(plan).stdout(full).status().expect("the program");
+    assert_eq!(status.code(), Some(0), "{status}");
 }
 
 /// Every file named in `plans` has its partner.

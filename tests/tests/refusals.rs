@@ -4,6 +4,7 @@
 use sulgrach_tests::compare::{self, Lengths};
 use sulgrach_tests::generate::faults::{faulty, faulty_many_times, sound, FAULTS};
 use sulgrach_tests::generate::{hex, samples, Class, Random};
+use sulgrach_tests::library;
 use sulgrach_tests::second::{self, Verdict, EVERY_PLAN, MOST_CELLS};
 use sulgrach_tests::times;
 
@@ -21,6 +22,7 @@ fn every_clause_alone() {
             every_call(&mut random, &plan, &case);
         }
     }
+    compare::print_calls("every_clause_alone");
 }
 
 #[test]
@@ -30,6 +32,7 @@ fn several_faults_in_order() {
         let plan = faulty_many_times(&mut random);
         every_call(&mut random, &plan, &format!("several faults, seed {seed}, plan {}", hex(&plan)));
     }
+    compare::print_calls("several_faults_in_order");
 }
 
 #[test]
@@ -45,6 +48,7 @@ fn any_bytes_changed() {
         }
         every_call(&mut random, &plan, &format!("bytes changed, seed {seed}, plan {}", hex(&plan)));
     }
+    compare::print_calls("any_bytes_changed");
 }
 
 #[test]
@@ -69,6 +73,30 @@ fn tables_too_short() {
             compare::list(&mut random, &sample.plan, lengths, limit, &sample);
         }
     }
+    compare::print_calls("tables_too_short");
+}
+
+/// Refusal 6 for the 16-bit table alone: both other tables are long enough and
+/// are untouched all the same. Told here without the second checker.
+#[test]
+fn a_short_index_leaves_all_memory() {
+    let mut made = 0;
+    for sample in samples(Class::Decisive, 4_100_000, times(200)) {
+        let cells = second::read(&sample.plan).expect("an accepted plan").cells();
+        for index in [0, 1, cells - 1] {
+            let before = (vec![0xa5a5_a5a5; cells + 1], vec![0x5a5a; index], vec![0x5a; 2_000]);
+            let (mut first, mut second) = (before.0.clone(), before.0.clone());
+            let (mut index, mut output, mut numbers) = (before.1.clone(), before.2.clone(), [7, 8, 9]);
+            let (plan, limit) = (&sample.plan, EVERY_PLAN);
+            let code =
+                library::list(plan, &mut first, &mut second, limit, &mut index, &mut output, &mut numbers);
+            assert_eq!(code, library::refused(6), "{sample}");
+            assert!(first == before.0 && second == before.0, "a table is touched; {sample}");
+            assert!(index == before.1 && output == before.2 && numbers == [7, 8, 9], "touched; {sample}");
+            made += 1;
+        }
+    }
+    println!("a_short_index_leaves_all_memory: {made} listings");
 }
 
 #[test]
@@ -91,6 +119,7 @@ fn bounds_that_are_still_accepted() {
         assert_eq!(second::read(&plan).err(), expected, "label {label}");
         every_call(&mut Random::new(label.into()), &plan, &format!("label {label}"));
     }
+    compare::print_calls("bounds_that_are_still_accepted");
 }
 
 /// All three calls on a plan that may be refused. An accepted one is only run

@@ -22,6 +22,7 @@ fn right_listings_on_any_grounds() {
         }
     });
     assert!(accepted > 1_000, "only {accepted} listings");
+    compare::print_calls("right_listings_on_any_grounds");
 }
 
 #[test]
@@ -42,6 +43,7 @@ fn wandering_derivations() {
     }
     println!("answers by number: {answers:?}");
     assert!(answers[0] > 300 && answers[11] > 300, "answers by number: {answers:?}");
+    compare::print_calls("wandering_derivations");
 }
 
 #[test]
@@ -52,6 +54,7 @@ fn wandering_before_the_listing() {
         derivation.follow(random, lines);
         assert_eq!(compare::replay(&sample.plan, &bytes(&derivation.entries), sample), 0, "{sample}");
     });
+    compare::print_calls("wandering_before_the_listing");
 }
 
 #[test]
@@ -77,6 +80,7 @@ fn damaged_listings() {
     for refusal in [8, 9, 10, 11] {
         assert!(total(refusal) > 500, "refusal {refusal} only {} times", total(refusal));
     }
+    compare::print_calls("damaged_listings");
 }
 
 #[test]
@@ -94,6 +98,7 @@ fn listings_of_other_plans() {
         let another = generate::sample(sample.class, sample.seed + 1);
         compare::replay(&another.plan, &listing, &format!("replayed on {another}, {sample}"));
     });
+    compare::print_calls("listings_of_other_plans");
 }
 
 /// Lines past Z's first one can give Z a label that is not plain: an end in
@@ -122,6 +127,7 @@ fn an_end_with_an_unknown_digit() {
     let fed = Entry { point: 3, set: 0, label: 0b0011, rule: 1, wait: 8, row: 0, first: 7, second: 0 };
     let listing = bytes(&[&right[..], &[fed]].concat());
     assert_eq!(compare::replay(&plan, &listing, &"an unknown label fed to rule 1"), 10);
+    compare::print_calls("an_end_with_an_unknown_digit");
 }
 
 /// Two points that send each other up by an hour a line, as far as a listing
@@ -153,6 +159,7 @@ fn the_longest_climb() {
     for (m, answer) in [(5, 0), (200, 0), (4_096, 0), (4_097, 8)] {
         assert_eq!(compare::replay(&plan, &bytes(&climb(m)), &format!("a climb of {m} lines")), answer);
     }
+    compare::print_calls("the_longest_climb");
 }
 
 /// The 1-line listings over all heads and grounds near their bounds.
@@ -174,6 +181,7 @@ fn every_short_listing_near_the_bounds() {
             }
         }
     }
+    compare::print_calls("every_short_listing_near_the_bounds");
 }
 
 /// A line as the ground gives it, where it gives one.
