@@ -773,7 +773,7 @@ mod filling {
 mod refusals {
     pub use self::refusals::refusal;
 
-    // Refusals 1 to 5, in the order of document 01.
+    // Refusals 1 to 5, in their order.
     mod refusals {
         use super::super::plan::cells;
         use super::super::plan::edge_down;
@@ -795,7 +795,7 @@ mod refusals {
         use super::super::plan::points;
         use super::super::plan::propositions;
 
-        // The numbers of document 01's table.
+        // The numbers of the refusals.
         const ACCEPTED: u32 = 0;
 
         const SHORT: u32 = 1;
@@ -1216,7 +1216,7 @@ mod tables {
 mod rounds {
     pub use self::running::check;
 
-    // What the check answers; specs/Outcomes says what document 01 calls each.
+    // What the check answers.
     pub enum Answer {
         Kept(u32),
         Broken(u32),
@@ -1331,7 +1331,7 @@ mod rounds {
             run(plan, &marks, horizon, first, second, limit)
         }
 
-        // Kept or broken with R, spent with the limit, or refused with the number of document 01's table; refused, the tables are untouched.
+        // Kept or broken with R, spent with the limit, or refused with the refusal's number; refused, the tables are untouched.
         pub fn check(plan: &[u8], first: &mut [u32], second: &mut [u32], limit: u32) -> Answer {
             let number = refusal(plan);
             if number != 0 {

@@ -1,4 +1,4 @@
-//! The second checker: document 01 read literally.
+//! The second checker: the specification read literally.
 //!
 //! It was made apart from the library and shares nothing with it. Each part
 //! is meant to be held beside the sentence of the document that it quotes;

@@ -1,4 +1,4 @@
-//! The bench plans c1 to c10, as document 01 tells their answers.
+//! The bench plans c1 to c10, with the answers that the specification tells.
 
 use std::fs;
 use std::path::PathBuf;

@@ -1,4 +1,4 @@
-//! The C header: its constants are those of document 01. Its types are what
+//! The C header: its constants are those of the specification. Its types are what
 //! the library is called by in every other test.
 
 use sulgrach_tests::library::header::{CALLS, CONSTANTS, SULGRACH_STACK};
@@ -14,7 +14,7 @@ fn every_constant() {
         ("SULGRACH_CELLS", MOST_CELLS as u32),
         ("SULGRACH_ROUNDS", EVERY_PLAN),
         ("SULGRACH_LISTING", listing_bytes(MOST_LINES) as u32),
-        // No figure of document 01: `stack.rs` measures it.
+        // No figure of the specification: `stack.rs` measures it.
         ("SULGRACH_STACK", SULGRACH_STACK),
     ];
     assert_eq!(CONSTANTS, expected);

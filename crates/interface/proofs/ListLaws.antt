@@ -10,8 +10,8 @@ use borrow.Author.Tests.{ltb-false}
 use Rattle.plan.specs.Plan.{Plan}
 use Rattle.plan.specs.Layout.{planOf}
 use Rattle.rounds.specs.Outcomes.{Outcome, kept, broken, spent, refused, pick, checkOutcome}
-use Rattle.lines.specs.Listed.{listingLines}
-use Rattle.listing.specs.Outcomes.{listingLength, lengthWith, tooLong, withListing, indexShort, listOutcome}
+use Rattle.listing_lines.specs.Listed.{listingLines}
+use Rattle.listing.specs.ListOutcomes.{listingLength, lengthWith, tooLong, withListing, indexShort, listOutcome}
 use Rattle.interface.specs.Codes.{codeOf, countInto, lengthInto, numbersInto}
 use Rattle.interface.proofs.CodeLaws.{check-few}
 
@@ -46,5 +46,5 @@ list-fits bs F G limit I out = go (indexShort bs I)
     go false = listed-fits (planOf bs) (length out) (checkOutcome bs F G limit) (check-few bs F G limit)
 
 -- the count and the length one after the other: a the answer as the check's, b as the listing's
-pub numbers-told : (P : Plan) (ns : List ℕ) {a b o : Outcome} {n : ℕ} {ms ls : List ℕ} → a ≡ b → b ≡ o → n ≡ lengthWith P b → ms ≡ countInto a ns → ls ≡ lengthInto b n ms → ls ≡ numbersInto o (lengthWith P o) ns
-numbers-told P ns e f g h i = cc
+pub numbers-told : (ns : List ℕ) (n : ℕ) {a b : Outcome} {ms ls : List ℕ} → a ≡ b → ms ≡ countInto a ns → ls ≡ lengthInto b n ms → ls ≡ numbersInto b n ns
+numbers-told ns n e h i = cc

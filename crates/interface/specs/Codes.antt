@@ -1,30 +1,30 @@
--- What a C caller sees of an answer: one number, and the numbers of a lent slice. A slice that lacks an entry keeps what it has (`set` past the end).
+-- What a C caller sees of an answer (14.2, 14.3): a code, and numbers in a lent slice. A slice that lacks an entry keeps what it has (`set` past the end).
 use mathlib.Core.List.{List}
 use Prim.Native.Nat.{ℕ, _+_}
 use lib.ListN.{set}
 use Rattle.rounds.specs.Outcomes.{Outcome, kept, broken, spent, refused}
 
--- 0 kept, 1 broken, 2 spent, 100 and the number of a refusal
+-- 14.2: the code of an answer
 abbrev pub codeOf : Outcome → ℕ
 codeOf (kept r) = 0
 codeOf (broken r) = 1
 codeOf (spent r) = 2
 codeOf (refused n) = 100 + n
 
--- the check's numbers: the rounds in entry 0; untouched where refused
+-- 14.3: the check's numbers: the rounds in entry 0; untouched where refused
 abbrev pub countInto : Outcome → List ℕ → List ℕ
 countInto (kept r) ns = set ns 0 r
 countInto (broken r) ns = set ns 0 r
 countInto (spent r) ns = set ns 0 r
 countInto (refused n) ns = ns
 
--- where broken, the listing's length in bytes in entry 1
+-- 14.3: where broken, the listing's length in bytes in entry 1
 abbrev pub lengthInto : Outcome → ℕ → List ℕ → List ℕ
 lengthInto (kept r) bytes ns = ns
 lengthInto (broken r) bytes ns = set ns 1 bytes
 lengthInto (spent r) bytes ns = ns
 lengthInto (refused n) bytes ns = ns
 
--- the listing's numbers
+-- 14.3: the listing's numbers
 abbrev pub numbersInto : Outcome → ℕ → List ℕ → List ℕ
 numbersInto o bytes ns = lengthInto o bytes (countInto o ns)

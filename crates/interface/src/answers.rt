@@ -2,7 +2,8 @@
 use rounds::Answer;
 ghost use mathlib.Core.Path.{_≡_};
 ghost use Prim.Native.Nat.{_<_};
-ghost use lib.ListN.{length, set};
+ghost use lib.ListN.{set};
+ghost use Rattle.plan.specs.Moments.{before, after, SameLength};
 ghost use Rattle.rounds.specs.Outcomes.{outcomeOf};
 ghost use Rattle.interface.specs.Codes.{codeOf, countInto};
 
@@ -20,8 +21,8 @@ pub fn code(answer: Answer) -> u32
 
 // A number that has no entry is left out.
 pub fn put_number(numbers: &mut [u32], place: usize, value: u32)
-    ensures { λ _. ⌜ now (numbers .exit) ≡ set (now (numbers .entry)) place value ⌝ }
-    ensures { λ _. ⌜ length (now (numbers .exit)) ≡ length (now (numbers .entry)) ⌝ }
+    ensures { λ _. ⌜ after numbers ≡ set (before numbers) place value ⌝ }
+    ensures { λ _. ⌜ SameLength numbers ⌝ }
 {
     if place < numbers.len() {
         numbers[place] = value;
@@ -29,8 +30,8 @@ pub fn put_number(numbers: &mut [u32], place: usize, value: u32)
 }
 
 pub fn put_count(numbers: &mut [u32], answer: Answer)
-    ensures { λ _. ⌜ now (numbers .exit) ≡ countInto (outcomeOf answer) (now (numbers .entry)) ⌝ }
-    ensures { λ _. ⌜ length (now (numbers .exit)) ≡ length (now (numbers .entry)) ⌝ }
+    ensures { λ _. ⌜ after numbers ≡ countInto (outcomeOf answer) (before numbers) ⌝ }
+    ensures { λ _. ⌜ SameLength numbers ⌝ }
 {
     match answer {
         Answer::Kept(r) => put_number(numbers, 0, r),

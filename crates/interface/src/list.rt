@@ -7,11 +7,11 @@ use listing::list;
 use rounds::Answer;
 ghost use mathlib.Core.Path.{_≡_};
 ghost use Prim.Native.Nat.{_<_};
-ghost use lib.ListN.{length};
-ghost use Rattle.plan.specs.Layout.{planOf};
+ghost use Rattle.plan.specs.Moments.{before, after, SameLength, moments};
 ghost use Rattle.rounds.specs.Outcomes.{outcomeOf};
-ghost use Rattle.listing.specs.Outcomes.{answerOf, lengthOf, lengthWith, listOutcome, listTable, indexWith, OutputWith};
-ghost use Rattle.interface.specs.Codes.{codeOf, lengthInto, numbersInto};
+ghost use Rattle.listing.specs.ListOutcomes.{answerOf, lengthOf};
+ghost use Rattle.interface.specs.Codes.{lengthInto};
+ghost use Rattle.interface.specs.Calls.{AfterListCall};
 
 // The listing answers as the check does.
 fn answer(listed: Listed) -> Answer
@@ -27,8 +27,8 @@ fn answer(listed: Listed) -> Answer
 
 fn put_length(numbers: &mut [u32], listed: Listed)
     requires { ⌜ lengthOf listed < 4294967296 ⌝ }
-    ensures { λ _. ⌜ now (numbers .exit) ≡ lengthInto (answerOf listed) (lengthOf listed) (now (numbers .entry)) ⌝ }
-    ensures { λ _. ⌜ length (now (numbers .exit)) ≡ length (now (numbers .entry)) ⌝ }
+    ensures { λ _. ⌜ after numbers ≡ lengthInto (answerOf listed) (lengthOf listed) (before numbers) ⌝ }
+    ensures { λ _. ⌜ SameLength numbers ⌝ }
 {
     match listed {
         Listed::Kept(_) => {}
@@ -49,12 +49,7 @@ pub extern "C" fn sulgrach_list(
     out: &mut [u8],
     numbers: &mut [u32],
 ) -> u32
-    ensures { λ r. ⌜ r ≡ codeOf (listOutcome (now (plan .entry)) (now (first .entry)) (now (second .entry)) limit (now (index .entry)) (now (out .entry))) ⌝ }
-    ensures { λ _. ⌜ now (first .exit) ≡ listTable (now (plan .entry)) (now (first .entry)) (now (second .entry)) limit (now (index .entry)) (now (first .entry)) ⌝ }
-    ensures { λ _. ⌜ now (second .exit) ≡ listTable (now (plan .entry)) (now (first .entry)) (now (second .entry)) limit (now (index .entry)) (now (second .entry)) ⌝ }
-    ensures { λ _. ⌜ now (index .exit) ≡ indexWith (planOf (now (plan .entry))) (listOutcome (now (plan .entry)) (now (first .entry)) (now (second .entry)) limit (now (index .entry)) (now (out .entry))) (now (index .entry)) ⌝ }
-    ensures { λ _. ⌜ OutputWith (now (plan .entry)) (listOutcome (now (plan .entry)) (now (first .entry)) (now (second .entry)) limit (now (index .entry)) (now (out .entry))) (now (out .entry)) (now (out .exit)) ⌝ }
-    ensures { λ _. ⌜ now (numbers .exit) ≡ numbersInto (listOutcome (now (plan .entry)) (now (first .entry)) (now (second .entry)) limit (now (index .entry)) (now (out .entry))) (lengthWith (planOf (now (plan .entry))) (listOutcome (now (plan .entry)) (now (first .entry)) (now (second .entry)) limit (now (index .entry)) (now (out .entry)))) (now (numbers .entry)) ⌝ }
+    ensures { λ r. ⌜ AfterListCall (before plan) limit (moments first) (moments second) (moments index) (moments out) (moments numbers) r ⌝ }
 {
     let listed = list(plan, first, second, limit, index, out);
     let answered = answer(listed);

@@ -1,1 +1,1 @@
-mod HandLaws
+mod AnswerLaws

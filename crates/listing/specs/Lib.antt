@@ -1,2 +1,3 @@
-pub mod Outcomes
+pub mod ListOutcomes
+pub mod AfterList
 pub mod Answering

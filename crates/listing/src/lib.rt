@@ -1,9 +1,9 @@
 // The listing of a broken plan.
-mod handing;
+mod answering;
 
-pub use handing::list;
+pub use answering::list;
 
-// What the listing answers: as the check, and with broken also the listing's length in bytes; specs/Outcomes says what document 01 calls each.
+// What the listing answers: as the check, and with broken also the listing's length in bytes; specs/ListOutcomes says what each stands for.
 pub enum Listed {
     Kept(u32),
     Broken(u32, usize),

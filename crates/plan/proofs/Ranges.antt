@@ -28,7 +28,7 @@ pub record WellFormed (P : Plan) : Type 0 where
   pub most-le : (i : ℕ) → i < P .links → P .most i ≤ P .largest
   pub down-le : (i : ℕ) → i < P .edges → P .down i ≤ P .largest
 
--- the bounds of document 01 that the code's numbers rest on
+-- the bounds (4.2, 4.4, 4.5) that the code's numbers rest on
 pub record Bounded (P : Plan) : Type 0 where
   pub points-in : P .points ≤ 32
   pub propositions-in : P .propositions ≤ 4

@@ -1,4 +1,4 @@
--- The bytes of a plan (document 01, "The plan": "File, high byte first"). Nothing else knows where a field stands.
+-- The bytes of a plan (3). Nothing else knows where a field stands.
 use mathlib.Core.Bool.{cond}
 use mathlib.Core.List.{List}
 use Prim.Native.Nat.{ℕ, zero, suc, _+_, _-_, _*_, max}
@@ -7,19 +7,19 @@ use Rattle.plan.specs.Bytes.{byteAt, wordAt}
 use Rattle.plan.specs.Plan.{Plan}
 
 -- Rows are counted over both arrays: k links, then e edges.
--- where the two ends of row r stand, in the first array
+-- 3.4: where the two ends of row r stand, in the first array
 unfoldable pub endsAt : List ℕ → ℕ → ℕ
 endsAt bs r = 4 + byteAt bs 1 + 2 * r
 
--- where the four bytes of row r stand, in the second array
+-- 3.5: where the four bytes of row r stand, in the second array
 unfoldable pub dataAt : List ℕ → ℕ → ℕ
 dataAt bs r = 4 + byteAt bs 1 + 2 * (byteAt bs 2 + byteAt bs 3) + 4 * r
 
--- the row of edge i
+-- 3.4: the row of edge i
 unfoldable pub edgeRow : List ℕ → ℕ → ℕ
 edgeRow bs i = byteAt bs 2 + i
 
--- a 16-bit weight u in two's complement: u where u ≥ 0, and -u where u < 0
+-- 1.4, 3.5: a 16-bit weight u in two's complement: u where u ≥ 0, and -u where u < 0
 unfoldable pub upOf : ℕ → ℕ
 upOf w = cond (ltb w 32768) w 0
 
@@ -31,16 +31,18 @@ unfoldable pub greatest : (ℕ → ℕ) → ℕ → ℕ
 greatest f zero = 0
 greatest f (suc n) = max (greatest f n) (f n)
 
+-- 3.5: y of link i, and -u of edge i where u < 0
 unfoldable pub mostAt : List ℕ → ℕ → ℕ
 mostAt bs i = wordAt bs (dataAt bs i + 2)
 
 unfoldable pub downAt : List ℕ → ℕ → ℕ
 downAt bs i = downOf (wordAt bs (dataAt bs (edgeRow bs i)))
 
--- M: the largest of all y and all -u with u < 0, or 0 if there are none
+-- 1.5: M
 unfoldable pub largestOf : List ℕ → ℕ
 largestOf bs = max (greatest (mostAt bs) (byteAt bs 2)) (greatest (downAt bs) (byteAt bs 3))
 
+-- 3.2 to 3.5: the plan that the bytes are
 unfoldable pub planOf : List ℕ → Plan
 planOf bs =
     record {
@@ -62,10 +64,10 @@ planOf bs =
       horizon = byteAt bs 0 * largestOf bs;
     }
 
--- the last byte of edge i, which no rule sees
+-- 3.5: the spare byte of edge i, which no rule sees
 unfoldable pub spareAt : List ℕ → ℕ → ℕ
 spareAt bs i = byteAt bs (dataAt bs (edgeRow bs i) + 3)
 
--- the length that the sizes ask for
+-- 3.6: the length that the sizes ask for
 unfoldable pub lengthFor : Plan → ℕ
 lengthFor P = 4 + P .propositions + 6 * (P .links + P .edges)

@@ -4,3 +4,4 @@ pub mod LinkSet
 pub mod Plan
 pub mod Layout
 pub mod Refusal
+pub mod Moments

@@ -4,18 +4,14 @@ use crate::fields::edges;
 use crate::fields::link_most;
 use crate::fields::links;
 use crate::fields::points;
+use crate::numbers::greater;
 ghost use mathlib.Core.Path.{_≡_};
-ghost use Prim.Native.Nat.{_<_, max};
+ghost use Prim.Native.Nat.{_<_};
+ghost use Rattle.plan.specs.Moments.{before};
 ghost use Rattle.plan.specs.Layout.{planOf, greatest, mostAt, downAt};
 
-fn greater(a: u64, b: u64) -> u64
-    ensures { λ r. ⌜ r ≡ max a b ⌝ }
-{
-    if a < b { b } else { a }
-}
-
 fn greatest_most(plan: &[u8]) -> u64
-    ensures { λ r. ⌜ (r ≡ greatest (mostAt (now (plan .entry))) (planOf (now (plan .entry)) .links)) × (r < 65536) ⌝ }
+    ensures { λ r. ⌜ (r ≡ greatest (mostAt (before plan)) (planOf (before plan) .links)) × (r < 65536) ⌝ }
 {
     let mut most = 0;
     let n = links(plan);
@@ -26,7 +22,7 @@ fn greatest_most(plan: &[u8]) -> u64
 }
 
 fn greatest_down(plan: &[u8]) -> u64
-    ensures { λ r. ⌜ (r ≡ greatest (downAt (now (plan .entry))) (planOf (now (plan .entry)) .edges)) × (r < 65536) ⌝ }
+    ensures { λ r. ⌜ (r ≡ greatest (downAt (before plan)) (planOf (before plan) .edges)) × (r < 65536) ⌝ }
 {
     let mut most = 0;
     let n = edges(plan);
@@ -38,13 +34,13 @@ fn greatest_down(plan: &[u8]) -> u64
 
 // M: the largest of all y and all -u with u < 0, or 0.
 pub fn largest(plan: &[u8]) -> u64
-    ensures { λ r. ⌜ (r ≡ planOf (now (plan .entry)) .largest) × (r < 65536) ⌝ }
+    ensures { λ r. ⌜ (r ≡ planOf (before plan) .largest) × (r < 65536) ⌝ }
 {
     greater(greatest_most(plan), greatest_down(plan))
 }
 
 pub fn horizon(plan: &[u8]) -> u64
-    ensures { λ r. ⌜ (r ≡ planOf (now (plan .entry)) .horizon) × (r < 16777216) ⌝ }
+    ensures { λ r. ⌜ (r ≡ planOf (before plan) .horizon) × (r < 16777216) ⌝ }
 {
     points(plan) as u64 * largest(plan)
 }

@@ -2,30 +2,32 @@
 use crate::bytes::byte_at;
 use crate::bytes::word_at;
 ghost use mathlib.Core.Path.{_≡_};
-ghost use Prim.Native.Nat.{_<_, _≤_, _^_};
+ghost use Prim.Native.Nat.{_+_, _<_, _≤_, _^_};
+ghost use Rattle.plan.specs.Moments.{before};
+ghost use Rattle.plan.specs.Bytes.{byteAt};
 ghost use Rattle.plan.specs.Plan.{width as widthOf, cells as cellsOf};
 ghost use Rattle.plan.specs.Layout.{planOf, endsAt, dataAt, edgeRow, spareAt};
 
 pub fn points(plan: &[u8]) -> usize
-    ensures { λ r. ⌜ (r ≡ planOf (now (plan .entry)) .points) × (r < 256) ⌝ }
+    ensures { λ r. ⌜ (r ≡ planOf (before plan) .points) × (r < 256) ⌝ }
 {
     byte_at(plan, 0)
 }
 
 pub fn propositions(plan: &[u8]) -> usize
-    ensures { λ r. ⌜ (r ≡ planOf (now (plan .entry)) .propositions) × (r < 256) ⌝ }
+    ensures { λ r. ⌜ (r ≡ planOf (before plan) .propositions) × (r < 256) ⌝ }
 {
     byte_at(plan, 1)
 }
 
 pub fn links(plan: &[u8]) -> usize
-    ensures { λ r. ⌜ (r ≡ planOf (now (plan .entry)) .links) × (r < 256) ⌝ }
+    ensures { λ r. ⌜ (r ≡ planOf (before plan) .links) × (r < 256) ⌝ }
 {
     byte_at(plan, 2)
 }
 
 pub fn edges(plan: &[u8]) -> usize
-    ensures { λ r. ⌜ (r ≡ planOf (now (plan .entry)) .edges) × (r < 256) ⌝ }
+    ensures { λ r. ⌜ (r ≡ planOf (before plan) .edges) × (r < 256) ⌝ }
 {
     byte_at(plan, 3)
 }
@@ -33,7 +35,7 @@ pub fn edges(plan: &[u8]) -> usize
 // The number of labels, 4^p.
 pub fn labels(plan: &[u8]) -> usize
     requires { ⌜ planOf (now plan) .propositions ≤ 4 ⌝ }
-    ensures { λ r. ⌜ (r ≡ 4 ^ planOf (now (plan .entry)) .propositions) × (r ≤ 256) ⌝ }
+    ensures { λ r. ⌜ (r ≡ 4 ^ planOf (before plan) .propositions) × (r ≤ 256) ⌝ }
 {
     1 << (2 * propositions(plan))
 }
@@ -41,21 +43,21 @@ pub fn labels(plan: &[u8]) -> usize
 // The cells of one point.
 pub fn width(plan: &[u8]) -> usize
     requires { ⌜ (planOf (now plan) .links ≤ 4) × (planOf (now plan) .propositions ≤ 4) ⌝ }
-    ensures { λ r. ⌜ (r ≡ widthOf (planOf (now (plan .entry)))) × (r ≤ 4096) ⌝ }
+    ensures { λ r. ⌜ (r ≡ widthOf (planOf (before plan))) × (r ≤ 4096) ⌝ }
 {
     1 << (links(plan) + 2 * propositions(plan))
 }
 
 pub fn cells(plan: &[u8]) -> usize
     requires { ⌜ (planOf (now plan) .links ≤ 4) × (planOf (now plan) .propositions ≤ 4) ⌝ }
-    ensures { λ r. ⌜ r ≡ cellsOf (planOf (now (plan .entry))) ⌝ }
+    ensures { λ r. ⌜ r ≡ cellsOf (planOf (before plan)) ⌝ }
 {
     points(plan) * width(plan)
 }
 
 pub fn observer(plan: &[u8], j: usize) -> usize
     requires { ⌜ j < 256 ⌝ }
-    ensures { λ r. ⌜ (r ≡ planOf (now (plan .entry)) .observer j) × (r < 256) ⌝ }
+    ensures { λ r. ⌜ (r ≡ planOf (before plan) .observer j) × (r < 256) ⌝ }
 {
     byte_at(plan, 4 + j)
 }
@@ -63,7 +65,7 @@ pub fn observer(plan: &[u8], j: usize) -> usize
 // Where the two ends of a row stand.
 fn ends_at(plan: &[u8], row: usize) -> usize
     requires { ⌜ row < 512 ⌝ }
-    ensures { λ r. ⌜ (r ≡ endsAt (now (plan .entry)) row) × (r < 4096) ⌝ }
+    ensures { λ r. ⌜ (r ≡ endsAt (before plan) row) × (r < 4096) ⌝ }
 {
     4 + byte_at(plan, 1) + 2 * row
 }
@@ -71,7 +73,7 @@ fn ends_at(plan: &[u8], row: usize) -> usize
 // Where the four bytes of a row stand.
 fn data_at(plan: &[u8], row: usize) -> usize
     requires { ⌜ row < 512 ⌝ }
-    ensures { λ r. ⌜ (r ≡ dataAt (now (plan .entry)) row) × (r < 4096) ⌝ }
+    ensures { λ r. ⌜ (r ≡ dataAt (before plan) row) × (r < 4096) ⌝ }
 {
     4 + byte_at(plan, 1) + 2 * (byte_at(plan, 2) + byte_at(plan, 3)) + 4 * row
 }
@@ -79,49 +81,49 @@ fn data_at(plan: &[u8], row: usize) -> usize
 // The row of an edge: the links come first.
 fn edge_row(plan: &[u8], i: usize) -> usize
     requires { ⌜ i < 256 ⌝ }
-    ensures { λ r. ⌜ (r ≡ edgeRow (now (plan .entry)) i) × (r < 512) ⌝ }
+    ensures { λ r. ⌜ (r ≡ edgeRow (before plan) i) × (r < 512) ⌝ }
 {
     byte_at(plan, 2) + i
 }
 
 pub fn link_activation(plan: &[u8], i: usize) -> usize
     requires { ⌜ i < 256 ⌝ }
-    ensures { λ r. ⌜ (r ≡ planOf (now (plan .entry)) .activation i) × (r < 256) ⌝ }
+    ensures { λ r. ⌜ (r ≡ planOf (before plan) .activation i) × (r < 256) ⌝ }
 {
     byte_at(plan, ends_at(plan, i))
 }
 
 pub fn link_finish(plan: &[u8], i: usize) -> usize
     requires { ⌜ i < 256 ⌝ }
-    ensures { λ r. ⌜ (r ≡ planOf (now (plan .entry)) .finish i) × (r < 256) ⌝ }
+    ensures { λ r. ⌜ (r ≡ planOf (before plan) .finish i) × (r < 256) ⌝ }
 {
     byte_at(plan, ends_at(plan, i) + 1)
 }
 
 pub fn link_least(plan: &[u8], i: usize) -> u64
     requires { ⌜ i < 256 ⌝ }
-    ensures { λ r. ⌜ (r ≡ planOf (now (plan .entry)) .least i) × (r < 65536) ⌝ }
+    ensures { λ r. ⌜ (r ≡ planOf (before plan) .least i) × (r < 65536) ⌝ }
 {
     word_at(plan, data_at(plan, i))
 }
 
 pub fn link_most(plan: &[u8], i: usize) -> u64
     requires { ⌜ i < 256 ⌝ }
-    ensures { λ r. ⌜ (r ≡ planOf (now (plan .entry)) .most i) × (r < 65536) ⌝ }
+    ensures { λ r. ⌜ (r ≡ planOf (before plan) .most i) × (r < 65536) ⌝ }
 {
     word_at(plan, data_at(plan, i) + 2)
 }
 
 pub fn edge_from(plan: &[u8], i: usize) -> usize
     requires { ⌜ i < 256 ⌝ }
-    ensures { λ r. ⌜ (r ≡ planOf (now (plan .entry)) .from i) × (r < 256) ⌝ }
+    ensures { λ r. ⌜ (r ≡ planOf (before plan) .from i) × (r < 256) ⌝ }
 {
     byte_at(plan, ends_at(plan, edge_row(plan, i)))
 }
 
 pub fn edge_to(plan: &[u8], i: usize) -> usize
     requires { ⌜ i < 256 ⌝ }
-    ensures { λ r. ⌜ (r ≡ planOf (now (plan .entry)) .to i) × (r < 256) ⌝ }
+    ensures { λ r. ⌜ (r ≡ planOf (before plan) .to i) × (r < 256) ⌝ }
 {
     byte_at(plan, ends_at(plan, edge_row(plan, i)) + 1)
 }
@@ -129,7 +131,7 @@ pub fn edge_to(plan: &[u8], i: usize) -> usize
 // The weight where it is not negative, else 0.
 pub fn edge_up(plan: &[u8], i: usize) -> u64
     requires { ⌜ i < 256 ⌝ }
-    ensures { λ r. ⌜ (r ≡ planOf (now (plan .entry)) .up i) × (r < 65536) ⌝ }
+    ensures { λ r. ⌜ (r ≡ planOf (before plan) .up i) × (r < 65536) ⌝ }
 {
     let weight = word_at(plan, data_at(plan, edge_row(plan, i)));
     if weight < 32768 {
@@ -141,7 +143,7 @@ pub fn edge_up(plan: &[u8], i: usize) -> u64
 // The weight's negative where it is negative, else 0.
 pub fn edge_down(plan: &[u8], i: usize) -> u64
     requires { ⌜ i < 256 ⌝ }
-    ensures { λ r. ⌜ (r ≡ planOf (now (plan .entry)) .down i) × (r < 65536) ⌝ }
+    ensures { λ r. ⌜ (r ≡ planOf (before plan) .down i) × (r < 65536) ⌝ }
 {
     let weight = word_at(plan, data_at(plan, edge_row(plan, i)));
     if weight < 32768 {
@@ -150,17 +152,25 @@ pub fn edge_down(plan: &[u8], i: usize) -> u64
     65536 - weight
 }
 
-pub fn edge_label(plan: &[u8], i: usize) -> usize
-    requires { ⌜ i < 256 ⌝ }
-    ensures { λ r. ⌜ (r ≡ planOf (now (plan .entry)) .label i) × (r < 256) ⌝ }
+// One of the four bytes of an edge.
+fn edge_byte(plan: &[u8], i: usize, k: usize) -> usize
+    requires { ⌜ (i < 256) × (k < 4) ⌝ }
+    ensures { λ r. ⌜ (r ≡ byteAt (before plan) (dataAt (before plan) (edgeRow (before plan) i) + k)) × (r < 256) ⌝ }
 {
-    byte_at(plan, data_at(plan, edge_row(plan, i)) + 2)
+    byte_at(plan, data_at(plan, edge_row(plan, i)) + k)
 }
 
-// The last byte of an edge.
+pub fn edge_label(plan: &[u8], i: usize) -> usize
+    requires { ⌜ i < 256 ⌝ }
+    ensures { λ r. ⌜ (r ≡ planOf (before plan) .label i) × (r < 256) ⌝ }
+{
+    edge_byte(plan, i, 2)
+}
+
+// The spare byte of an edge.
 pub fn edge_spare(plan: &[u8], i: usize) -> usize
     requires { ⌜ i < 256 ⌝ }
-    ensures { λ r. ⌜ (r ≡ spareAt (now (plan .entry)) i) × (r < 256) ⌝ }
+    ensures { λ r. ⌜ (r ≡ spareAt (before plan) i) × (r < 256) ⌝ }
 {
-    byte_at(plan, data_at(plan, edge_row(plan, i)) + 3)
+    edge_byte(plan, i, 3)
 }

@@ -4,6 +4,7 @@ mod bytes;
 mod fields;
 mod label;
 mod marks;
+mod numbers;
 
 pub use bounds::horizon;
 pub use bounds::largest;
@@ -32,3 +33,9 @@ pub use label::digit;
 pub use label::is_plain;
 pub use label::join;
 pub use marks::plain_marks;
+pub use numbers::cell_at;
+pub use numbers::greater;
+pub use numbers::lesser;
+pub use numbers::widen_byte;
+pub use numbers::widen_cell;
+pub use numbers::widen_word;

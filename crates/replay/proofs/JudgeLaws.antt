@@ -25,16 +25,19 @@ use Rattle.rules.specs.declared.Edge.the-variants.{PlanEdge, HorizonEdge}
 use Rattle.rules.specs.declared.Rule.{Rule}
 use Rattle.rules.specs.declared.Rule.the-variants.{Propagation, LowerCase, UpperCase, LetterRemoval, OwnLiteral, LiteralRemoval}
 use Rattle.rules.specs.Lines.{startingLine}
-use Rattle.applying.specs.Applying.{InLabels, givesLine}
+use Rattle.rules_apply.specs.Applying.{givesLine}
+use Rattle.rules_apply.specs.Applicable.{InLabels, Applicable}
 use Rattle.rules.specs.Derivations.{InPlan}
-use Rattle.applying.proofs.ApplyLaws.{both, first-fails, rest-fails, told, told-not, told-plain}
+use Rattle.rules_apply.proofs.ApplyLaws.{both, first-fails, rest-fails, told, told-not, told-plain}
 use Rattle.replay.specs.declared.Ruled.{Ruled}
 use Rattle.replay.specs.declared.Ruled.the-variants.{By, Nothing}
-use Rattle.replay.specs.Listings.{longAt, lineCount, headAt, headLine, headRule, rowOf, firstParent, secondParent, ruleOf, usesSecond, parentLine}
+use Rattle.rules.specs.Rules.{usesSecond}
+use Rattle.replay.specs.Listings.{longAt, lineCount, headAt, headLine, headRule, rowOf, firstParent, secondParent, ruleOf, parentLine}
 use Rattle.replay.specs.Replaying.{laidOut, inRange, parentsKnown, follows, judgeRule, judgeLine, judgeLines, judgeLast, judgeListing, replay}
 use Rattle.replay.specs.Derives.{ListingDerives}
+use Rattle.replay.specs.AfterReplay.{AfterReplay}
 use Rattle.replay.specs.Judged.{ruleOption, Judging}
-use Rattle.replay.proofs.ListingLaws.{in-plan, line-derives, lines-judged, replay-derives, derives-replay}
+use Rattle.replay.proofs.ListingLaws.{in-plan, line-derives, lines-judged, replay-derives, derives-replay, listing-derivation, listing-self-wait}
 
 -- ---- a conjunction of tests
 pub fails : (b : Bool) → b ≡ false → false ≡ b
@@ -181,11 +184,15 @@ module _ (plan bs marks : List ℕ) (horizon i : ℕ) (by : Rule) (j : Judging p
   pub second-reached : (r : Bool) (q : ℕ) → r ≡ (usesSecond by || eqb (secondParent bs i) 0) → not r ≡ false → q ≡ secondParent bs i → q < planOf plan .points + 4096
   second-reached r q e t k = omega (arith, second-number (granted r (usesSecond by || eqb (secondParent bs i) 0) e t), j .line-in)
 
-  pub first-in : (q : ℕ) (l : Line) → q ≡ firstParent bs i → l ≡ parentLine (planOf plan) bs q → l .wait < 4294967296 → InLabels (planOf plan) l
+  first-in : (q : ℕ) (l : Line) → q ≡ firstParent bs i → l ≡ parentLine (planOf plan) bs q → l .wait < 4294967296 → InLabels (planOf plan) l
   first-in q l k e w = parent-in q l (rw k first-number) e w
 
-  pub second-in : (r : Bool) (q : ℕ) (l : Line) → r ≡ (usesSecond by || eqb (secondParent bs i) 0) → not r ≡ false → q ≡ secondParent bs i → l ≡ parentLine (planOf plan) bs q → l .wait < 4294967296 → InLabels (planOf plan) l
+  second-in : (r : Bool) (q : ℕ) (l : Line) → r ≡ (usesSecond by || eqb (secondParent bs i) 0) → not r ≡ false → q ≡ secondParent bs i → l ≡ parentLine (planOf plan) bs q → l .wait < 4294967296 → InLabels (planOf plan) l
   second-in r q l g t k e w = parent-in q l (rw k (second-number (granted r (usesSecond by || eqb (secondParent bs i) 0) g t))) e w
+
+  -- what applying the rule to the two parents asks for
+  pub parents-lent : InPlan (planOf plan) by → (r : Bool) (q s : ℕ) (l m : Line) → r ≡ (usesSecond by || eqb (secondParent bs i) 0) → not r ≡ false → q ≡ firstParent bs i → l ≡ parentLine (planOf plan) bs q → l .wait < 4294967296 → s ≡ secondParent bs i → m ≡ parentLine (planOf plan) bs s → m .wait < 4294967296 → Applicable plan marks horizon by l m
+  parents-lent row r q s l m g t k e w k′ e′ w′ = record { accepted = j .accepted; marked = j .marked; horizon-is = j .horizon-is; row = row; first-in = first-in q l k e w; second-in = second-in r s m g t k′ e′ w′ }
 
 pub second-unfit : (P : Plan) (bs : List ℕ) (i : ℕ) (by : Rule) (r : Bool) → r ≡ (usesSecond by || eqb (secondParent bs i) 0) → not r ≡ true → false ≡ follows P bs i by
 unfolding follows
@@ -326,11 +333,12 @@ module _ (bs : List ℕ) where
 
 -- ---- replay
 module _ (plan bs : List ℕ) where
-  pub accepts : (r : ℕ) → r ≡ replay plan bs → r ≡ 0 → ListingDerives plan bs
-  accepts r e z = replay-derives plan bs (sym e ∙ z)
-
-  pub accepted : (r : ℕ) → r ≡ replay plan bs → ListingDerives plan bs → r ≡ 0
-  accepted r e d = e ∙ derives-replay plan bs d
+  -- all that replay promises, from its number
+  pub replayed : (r : ℕ) → r ≡ replay plan bs → AfterReplay plan bs r
+  replayed r e = record { number-is = e; accepted-derives = derives; derives-accepted = λ d. e ∙ derives-replay plan bs d; derivation = λ z. listing-derivation plan bs (derives z); self-wait = λ z. listing-self-wait plan bs (derives z) }
+    where
+      derives : r ≡ 0 → ListingDerives plan bs
+      derives z = replay-derives plan bs (sym e ∙ z)
 
   module _ (v : ℕ) (is : v ≡ refusal plan) where
     pub plan-accepted : v ≡ 0 → Accepted plan
@@ -348,4 +356,4 @@ module _ (plan bs : List ℕ) where
     unfolding replay
     listing-decides r w z e t f = rw (← is, z, told-not r (laidOut bs) true e t) f
 
-pub ruleset answers = (accepts, accepted, plan-refused, not-laid-out, listing-decides)
+pub ruleset answers = (replayed, plan-refused, not-laid-out, listing-decides)

@@ -7,7 +7,7 @@ use Rattle.plan.specs.Label.{joinDigit, join, plain}
 use Rattle.plan.specs.Layout.{endsAt, dataAt, edgeRow, upOf, downOf, greatest, mostAt, downAt, largestOf, planOf, spareAt, lengthFor}
 use Rattle.plan.specs.Refusal.{every, differs, sizesFit, observerFits, linkEndsFit, durationFits, linkFits, edgeEndsFit, labelFits, edgeFits, refusalOf, refusal}
 use Rattle.rules.specs.declared.Line.{Line}
-use Rattle.applying.specs.Applying.{sameLine, givesLine}
+use Rattle.rules_apply.specs.Applying.{sameLine, givesLine}
 use Rattle.replay.specs.Listings.{longAt, lineCount, headAt, headLine, headRule, groundAt, rowOf, firstParent, secondParent, linesIn}
 use Rattle.replay.specs.Replaying.{laidOut, inRange, parentsKnown, follows, judgeLine, judgeLines, judgeLast, judgeListing, replay}
 

@@ -1,4 +1,4 @@
--- Demand 2's second sentence: the bytes that are a derivation to "the first alarm waits for itself", by the rules, rows and parents that they name.
+-- What replay accepts, said without its order (11.7): the bytes that are a derivation, by the rules, rows and parents that they name, to "the first alarm waits for itself".
 use mathlib.Core.Path.{_≡_}
 use mathlib.Core.List.{List}
 use mathlib.Core.Option.{some}
@@ -10,10 +10,10 @@ use Rattle.plan.specs.Plan.{Plan}
 use Rattle.plan.specs.Layout.{planOf}
 use Rattle.plan.specs.Refusal.{Accepted}
 use Rattle.rules.specs.declared.Rule.{Rule}
-use Rattle.rules.specs.Rules.{fires, result}
-use Rattle.replay.specs.Listings.{lineCount, headLine, headRule, rowOf, firstParent, secondParent, ruleOf, usesSecond, parentLine}
+use Rattle.rules.specs.Rules.{fires, result, usesSecond}
+use Rattle.replay.specs.Listings.{lineCount, headLine, headRule, rowOf, firstParent, secondParent, ruleOf, parentLine}
 
--- line i is in range, and its rule gives it from starting lines or earlier lines
+-- 11.7: line i is in range, and its rule gives it from starting lines or earlier lines
 pub record LineDerives (P : Plan) (bs : List ℕ) (i : ℕ) : Type 0 where
   pub point-in : headLine bs i .point < P .points
   pub set-in : headLine bs i .set < 2 ^ P .links
@@ -26,7 +26,7 @@ pub record LineDerives (P : Plan) (bs : List ℕ) (i : ℕ) : Type 0 where
   pub fire : Is (fires P rule (parentLine P bs (firstParent bs i)) (parentLine P bs (secondParent bs i)))
   pub gave : result P rule (parentLine P bs (firstParent bs i)) (parentLine P bs (secondParent bs i)) ≡ headLine bs i
 
--- the bytes are laid out as a listing, every line derives, and the last one makes the first alarm wait for itself
+-- 11.7: the bytes are laid out as a listing, every line derives, and the last one makes the first alarm wait for itself
 pub record ListingDerives (plan bs : List ℕ) : Type 0 where
   pub accepted : Accepted plan
   pub some-lines : (1 ≤ lineCount bs) × (lineCount bs ≤ 4096)

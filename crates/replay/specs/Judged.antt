@@ -1,4 +1,4 @@
--- For the contracts of replay's inner functions: the code's optional rule, and what is known while line i is judged. Nothing here is to be believed.
+-- For inner contracts only: the code's optional rule, and what is known while line i is judged. Nothing here is to be believed.
 use mathlib.Core.Path.{_≡_}
 use mathlib.Core.List.{List}
 use mathlib.Core.Option.{Option, none, some}

@@ -1,4 +1,5 @@
 pub mod Listings
 pub mod Replaying
 pub mod Derives
+pub mod AfterReplay
 pub mod Judged

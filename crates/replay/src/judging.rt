@@ -6,7 +6,6 @@ use crate::fields::head_rule;
 use crate::fields::line_count;
 use crate::fields::row_of;
 use crate::fields::second_parent;
-use giving::gives_line;
 use plan::edges;
 use plan::horizon as horizon_of;
 use plan::is_plain;
@@ -15,25 +14,29 @@ use plan::links;
 use plan::plain_marks;
 use plan::points;
 use plan::propositions;
-use refusals::refusal;
+use plan_refusal::refusal;
 use rules::Edge;
 use rules::Line;
 use rules::Rule;
+use rules::uses_second;
+use rules_apply::gives_line;
 ghost use mathlib.Core.Path.{_≡_};
 ghost use mathlib.Core.Bool.{_||_};
 ghost use mathlib.Core.Option.{some};
 ghost use Prim.Native.Nat.{_+_, _^_, _<_, _≤_};
 ghost use lib.Dec.{T as Is, eqb};
+ghost use Rattle.plan.specs.Moments.{before};
 ghost use Rattle.plan.specs.Label.{Marks};
 ghost use Rattle.plan.specs.Layout.{planOf};
 ghost use Rattle.plan.specs.Refusal.{Accepted};
+ghost use Rattle.rules.specs.Rules.{usesSecond};
 ghost use Rattle.rules.specs.Derivations.{InPlan};
 ghost use Rattle.replay.specs.Listings as listings;
 ghost use Rattle.replay.specs.Replaying as replaying;
-ghost use Rattle.replay.specs.Derives.{ListingDerives};
+ghost use Rattle.replay.specs.AfterReplay.{AfterReplay};
 ghost use Rattle.replay.specs.Judged.{ruleOption, Judging};
 
-// The numbers of document 01's table.
+// The numbers of the refusals.
 const ACCEPTED: u32 = 0;
 
 const LAYOUT: u32 = 8;
@@ -47,7 +50,7 @@ const LAST: u32 = 11;
 // The edge of rule 1 that a row names.
 fn edge_rule(plan: &[u8], row: usize) -> Ruled
     requires { ⌜ row < 65536 ⌝ }
-    ensures { λ r. ⌜ ruleOption r ≡ listings.ruleOf (planOf (now (plan .entry))) 1 row ⌝ }
+    ensures { λ r. ⌜ ruleOption r ≡ listings.ruleOf (planOf (before plan)) 1 row ⌝ }
 {
     let e = edges(plan);
     if row < e {
@@ -65,7 +68,7 @@ fn edge_rule(plan: &[u8], row: usize) -> Ruled
 // Rules 2 to 4 of a link.
 fn link_rule(plan: &[u8], rule: usize, row: usize) -> Ruled
     requires { ⌜ (2 ≤ rule) × (rule ≤ 4) ⌝ }
-    ensures { λ r. ⌜ ruleOption r ≡ listings.ruleOf (planOf (now (plan .entry))) rule row ⌝ }
+    ensures { λ r. ⌜ ruleOption r ≡ listings.ruleOf (planOf (before plan)) rule row ⌝ }
 {
     if links(plan) <= row {
         return Ruled::Nothing;
@@ -82,7 +85,7 @@ fn link_rule(plan: &[u8], rule: usize, row: usize) -> Ruled
 // Rules 5 and 6 of a proposition.
 fn proposition_rule(plan: &[u8], rule: usize, row: usize) -> Ruled
     requires { ⌜ (5 ≤ rule) × (rule ≤ 6) ⌝ }
-    ensures { λ r. ⌜ ruleOption r ≡ listings.ruleOf (planOf (now (plan .entry))) rule row ⌝ }
+    ensures { λ r. ⌜ ruleOption r ≡ listings.ruleOf (planOf (before plan)) rule row ⌝ }
 {
     if propositions(plan) <= row {
         return Ruled::Nothing;
@@ -96,7 +99,7 @@ fn proposition_rule(plan: &[u8], rule: usize, row: usize) -> Ruled
 // The rule with its row, if both are in range.
 fn rule_of(plan: &[u8], rule: usize, row: usize) -> Ruled
     requires { ⌜ row < 65536 ⌝ }
-    ensures { λ r. ⌜ ruleOption r ≡ listings.ruleOf (planOf (now (plan .entry))) rule row ⌝ }
+    ensures { λ r. ⌜ ruleOption r ≡ listings.ruleOf (planOf (before plan)) rule row ⌝ }
 {
     if rule == 0 {
         return Ruled::Nothing;
@@ -113,22 +116,9 @@ fn rule_of(plan: &[u8], rule: usize, row: usize) -> Ruled
     Ruled::Nothing
 }
 
-pub fn uses_second(by: Rule) -> bool
-    ensures { λ r. ⌜ r ≡ listings.usesSecond by ⌝ }
-{
-    match by {
-        Rule::Propagation(_) => false,
-        Rule::LowerCase(_) => false,
-        Rule::UpperCase(_) => false,
-        Rule::LetterRemoval(_) => true,
-        Rule::OwnLiteral(_) => false,
-        Rule::LiteralRemoval(_) => true,
-    }
-}
-
 fn in_range(plan: &[u8], l: Line) -> bool
     requires { ⌜ Accepted (now plan) ⌝ }
-    ensures { λ r. ⌜ r ≡ replaying.inRange (planOf (now (plan .entry))) l ⌝ }
+    ensures { λ r. ⌜ r ≡ replaying.inRange (planOf (before plan)) l ⌝ }
 {
     if points(plan) <= l.point {
         return false;
@@ -142,7 +132,7 @@ fn in_range(plan: &[u8], l: Line) -> bool
 // A parent: below n the point's starting line, else a line of the listing.
 fn parent_line(plan: &[u8], listing: &[u8], q: usize) -> Line
     requires { ⌜ q < planOf (now plan) .points + 4096 ⌝ }
-    ensures { λ r. ⌜ r ≡ listings.parentLine (planOf (now (plan .entry))) (now (listing .entry)) q ⌝ }
+    ensures { λ r. ⌜ r ≡ listings.parentLine (planOf (before plan)) (before listing) q ⌝ }
     ensures { λ r. ⌜ r .wait < 4294967296 ⌝ }
 {
     let n = points(plan);
@@ -159,7 +149,7 @@ fn parent_line(plan: &[u8], listing: &[u8], q: usize) -> Line
 
 fn parents_known(plan: &[u8], listing: &[u8], i: usize, by: Rule) -> bool
     requires { ⌜ (i < 4096) × (listings.lineCount (now listing) ≤ 4096) ⌝ }
-    ensures { λ r. ⌜ r ≡ replaying.parentsKnown (planOf (now (plan .entry))) (now (listing .entry)) i by ⌝ }
+    ensures { λ r. ⌜ r ≡ replaying.parentsKnown (planOf (before plan)) (before listing) i by ⌝ }
 {
     let known = points(plan) + i;
     if known <= first_parent(listing, i) {
@@ -174,7 +164,7 @@ fn parents_known(plan: &[u8], listing: &[u8], i: usize, by: Rule) -> bool
 // Whether a second parent that the rule does not use is 0.
 fn second_fits(listing: &[u8], i: usize, by: Rule) -> bool
     requires { ⌜ (i < 4096) × (listings.lineCount (now listing) ≤ 4096) ⌝ }
-    ensures { λ r. ⌜ r ≡ listings.usesSecond by || eqb (listings.secondParent (now (listing .entry)) i) 0 ⌝ }
+    ensures { λ r. ⌜ r ≡ usesSecond by || eqb (listings.secondParent (before listing) i) 0 ⌝ }
 {
     if uses_second(by) {
         return true;
@@ -185,7 +175,7 @@ fn second_fits(listing: &[u8], i: usize, by: Rule) -> bool
 // Whether line i is what its rule gives; its parents are known, and the lines before it are in range.
 fn follows(plan: &[u8], marks: &[u8; 256], horizon: u64, listing: &[u8], i: usize, by: Rule) -> bool
     requires { ⌜ Judging (now plan) (now listing) (now marks) horizon i × InPlan (planOf (now plan)) by × Is (replaying.parentsKnown (planOf (now plan)) (now listing) i by) ⌝ }
-    ensures { λ r. ⌜ r ≡ replaying.follows (planOf (now (plan .entry))) (now (listing .entry)) i by ⌝ }
+    ensures { λ r. ⌜ r ≡ replaying.follows (planOf (before plan)) (before listing) i by ⌝ }
 {
     if !second_fits(listing, i, by) {
         return false;
@@ -212,10 +202,10 @@ fn judge_rule(
     by: Rule,
 ) -> u32
     requires { ⌜ Judging (now plan) (now listing) (now marks) horizon i × InPlan (planOf (now plan)) by ⌝ }
-    ensures { λ r. ⌜ r ≡ replaying.judgeRule (planOf (now (plan .entry))) (now (listing .entry)) i (some by) ⌝ }
+    ensures { λ r. ⌜ r ≡ replaying.judgeRule (planOf (before plan)) (before listing) i (some by) ⌝ }
 {
     if !parents_known(plan, listing, i, by) {
-        return RANGE;
+        return RANGE; // a parent
     }
     if !follows(plan, marks, horizon, listing, i, by) {
         return RULE;
@@ -226,7 +216,7 @@ fn judge_rule(
 // 9 or 10 where line i does not follow, else 0.
 fn judge_line(plan: &[u8], marks: &[u8; 256], horizon: u64, listing: &[u8], i: usize) -> u32
     requires { ⌜ Judging (now plan) (now listing) (now marks) horizon i ⌝ }
-    ensures { λ r. ⌜ r ≡ replaying.judgeLine (planOf (now (plan .entry))) (now (listing .entry)) i ⌝ }
+    ensures { λ r. ⌜ r ≡ replaying.judgeLine (planOf (before plan)) (before listing) i ⌝ }
 {
     if !in_range(plan, head_line(listing, i)) {
         return RANGE;
@@ -240,7 +230,7 @@ fn judge_line(plan: &[u8], marks: &[u8; 256], horizon: u64, listing: &[u8], i: u
 // The first refusal of the lines, 0 where all follow.
 fn judge_lines(plan: &[u8], marks: &[u8; 256], horizon: u64, listing: &[u8], m: usize) -> u32
     requires { ⌜ Accepted (now plan) × Marks (now marks) × (horizon ≡ planOf (now plan) .horizon) × (m ≡ listings.lineCount (now listing)) × (m ≤ 4096) ⌝ }
-    ensures { λ r. ⌜ r ≡ replaying.judgeLines (planOf (now (plan .entry))) (now (listing .entry)) m ⌝ }
+    ensures { λ r. ⌜ r ≡ replaying.judgeLines (planOf (before plan)) (before listing) m ⌝ }
 {
     for i in 0..m {
         let number = judge_line(plan, marks, horizon, listing, i);
@@ -254,7 +244,7 @@ fn judge_lines(plan: &[u8], marks: &[u8; 256], horizon: u64, listing: &[u8], m: 
 // 11 where the line does not make the first alarm wait for itself.
 fn judge_last(plan: &[u8], marks: &[u8; 256], l: Line) -> u32
     requires { ⌜ Accepted (now plan) × Marks (now marks) × (l .label < 4 ^ planOf (now plan) .propositions) ⌝ }
-    ensures { λ r. ⌜ r ≡ replaying.judgeLast (planOf (now (plan .entry))) l ⌝ }
+    ensures { λ r. ⌜ r ≡ replaying.judgeLast (planOf (before plan)) l ⌝ }
 {
     if l.point != 0 {
         return LAST;
@@ -267,7 +257,7 @@ fn judge_last(plan: &[u8], marks: &[u8; 256], l: Line) -> u32
 
 fn judge_listing(plan: &[u8], listing: &[u8]) -> u32
     requires { ⌜ Accepted (now plan) × (1 ≤ listings.lineCount (now listing)) × (listings.lineCount (now listing) ≤ 4096) ⌝ }
-    ensures { λ r. ⌜ r ≡ replaying.judgeListing (planOf (now (plan .entry))) (now (listing .entry)) ⌝ }
+    ensures { λ r. ⌜ r ≡ replaying.judgeListing (planOf (before plan)) (before listing) ⌝ }
 {
     let marks = plain_marks();
     let horizon = horizon_of(plan);
@@ -280,7 +270,7 @@ fn judge_listing(plan: &[u8], listing: &[u8]) -> u32
 }
 
 fn laid_out(listing: &[u8]) -> bool
-    ensures { λ r. ⌜ r ≡ replaying.laidOut (now (listing .entry)) ⌝ }
+    ensures { λ r. ⌜ r ≡ replaying.laidOut (before listing) ⌝ }
 {
     if listing.len() < 2 {
         return false;
@@ -295,11 +285,9 @@ fn laid_out(listing: &[u8]) -> bool
     listing.len() == 2 + 14 * m
 }
 
-// 0 where the listing is a derivation to "the first alarm waits for itself", else the number of document 01's table.
+// 0 where the listing is a derivation to "the first alarm waits for itself", else the number of the refusal.
 pub fn replay(plan: &[u8], listing: &[u8]) -> u32
-    ensures { λ r. ⌜ r ≡ replaying.replay (now (plan .entry)) (now (listing .entry)) ⌝ }
-    ensures { λ r. ⌜ (r ≡ 0 → ListingDerives (now (plan .entry)) (now (listing .entry))) ⌝ }
-    ensures { λ r. ⌜ (ListingDerives (now (plan .entry)) (now (listing .entry)) → r ≡ 0) ⌝ }
+    ensures { λ r. ⌜ AfterReplay (before plan) (before listing) r ⌝ }
 {
     let number = refusal(plan);
     if number != 0 {

@@ -1,4 +1,4 @@
--- Worked examples: two decimals, and document 01's plan c2, which prints the lines that document 01 shows, with any two tables of two cells or more.
+-- Worked examples: two decimals, and plan c2, which prints the lines of 13.4 with any two tables of two cells or more.
 use mathlib.Core.Path.{_≡_, refl, ap₂, _∙_}
 use mathlib.Core.List.{List, [], _∷_, _++_}
 use Prim.Native.Nat.{ℕ, _≤_}
@@ -9,13 +9,14 @@ use Rattle.plan.specs.Label.{digit, joinDigit, join, plain, clearDigit}
 use Rattle.plan.specs.LinkSet.{contains, union, insert, remove}
 use Rattle.plan.specs.Layout.{endsAt, dataAt, edgeRow, upOf, downOf, greatest, mostAt, downAt, largestOf, planOf, spareAt, lengthFor}
 use Rattle.plan.specs.Refusal.{every, differs, sizesFit, observerFits, linkEndsFit, durationFits, linkFits, edgeEndsFit, labelFits, edgeFits, refusalOf, refusal, Accepted}
-use Rattle.rules.specs.Tables.{next}
+use Rattle.rules.specs.Tables.{raiseCell, next}
 use Rattle.rounds.specs.Rounds.{zeros}
 use Rattle.rounds.specs.Outcomes.{Outcome, runOutcome, runTable}
 use Rattle.rounds.proofs.Checking.{check-runs, check-leaves}
 use Rattle.report.specs.Decimal.{digits, decimal}
 use Rattle.report.specs.Text.{joined, numberedLine, firstLine, cellText, pointLine, textOf}
-use Rattle.report.specs.Printed.{servingLimit, programOutcome, programTable, printed}
+use Rattle.rounds.specs.Meaning.{servingLimit}
+use Rattle.report.specs.Printed.{programOutcome, programTable, printed}
 
 pub decimal-zero : decimal 0 ≡ 48 ∷ []
 unfolding digits decimal
@@ -51,7 +52,7 @@ module _ (F G : List ℕ) (f : 2 ≤ length F) (g : 2 ≤ length G) where
 
   -- by computation
   prints : textOf (runOutcome (planOf c2) (zeros (planOf c2)) servingLimit) (planOf c2) left ≡ c2-lines
-  unfolding byteAt wordAt digit joinDigit join plain clearDigit contains union insert remove endsAt dataAt edgeRow upOf downOf greatest mostAt downAt largestOf planOf spareAt lengthFor every differs sizesFit observerFits linkEndsFit durationFits linkFits edgeEndsFit labelFits edgeFits refusalOf refusal next digits decimal joined numberedLine firstLine cellText pointLine textOf
+  unfolding byteAt wordAt digit joinDigit join plain clearDigit contains union insert remove endsAt dataAt edgeRow upOf downOf greatest mostAt downAt largestOf planOf spareAt lengthFor every differs sizesFit observerFits linkEndsFit durationFits linkFits edgeEndsFit labelFits edgeFits refusalOf refusal raiseCell next digits decimal joined numberedLine firstLine cellText pointLine textOf
   prints = refl
 
   pub c2-printed : printed c2 F G ≡ c2-lines

@@ -1,27 +1,28 @@
 -- How long a text is: at most 196,608 bytes, whatever the input and the tables are.
-use mathlib.Core.Path.{_≡_, refl, sym}
+use mathlib.Core.Path.{_≡_, refl}
 use mathlib.Core.Bool.{Bool, true, false, cond}
 use mathlib.Core.Logic.{_⊎_, inl, inr}
 use mathlib.Core.List.{List, [], _++_}
 use Prim.Native.Nat.{ℕ, zero, suc, _+_, _*_, _^_, _≤_, _<_}
 use native.Mathlib.Nat.{suc-mul, mul-add, mul-assoc}
-use native.Mathlib.Decide.{ℕ-discrete, decLe}
+use native.Mathlib.Decide.{decLe}
 use native.Mathlib.Omega.{arith}
 use lib.Dec.{ltb}
 use lib.ListN.{length, getD, drop, length-append, List·getD-append, length-replicate}
 use borrow.Author.Tests.{lt-ltb, le-ltb}
 use Rattle.plan.specs.Plan.{Plan, width, cells}
 use Rattle.plan.specs.Layout.{planOf}
-use Rattle.plan.specs.Refusal.{Accepted, refusal}
+use Rattle.plan.specs.Refusal.{Accepted}
 use Rattle.plan.proofs.Ranges.{accepted-well-formed, accepted-bounded}
-use Rattle.tables.proofs.Tabling.{row-within}
+use Rattle.rounds_tables.proofs.RoundLaws.{row-within}
 use Rattle.rounds.specs.Rounds.{zeros}
 use Rattle.rounds.specs.Outcomes.{Outcome, kept, broken, spent, refused, pick, runOutcome, runTable, checkOutcome, checkTable}
+use Rattle.rounds.specs.Meaning.{servingLimit}
 use Rattle.rounds.proofs.Stopping.{Stops, Ends, Running, stops-or-runs, ends-at, ends-spent}
 use Rattle.rounds.proofs.Small.{run-length, table-high, table-small}
-use Rattle.rounds.proofs.Checking.{check-runs, check-leaves, check-refused, check-short, short-first, short-second, refusal-few}
+use Rattle.rounds.proofs.Checking.{check-runs, check-leaves, refuses-or-runs}
 use Rattle.report.specs.Text.{joined, numberedLine, firstLine, cellText, pointLine, isRefused, textOf}
-use Rattle.report.specs.Printed.{servingLimit, programOutcome, programTable, printed}
+use Rattle.report.specs.Printed.{programOutcome, programTable, printed}
 use Rattle.report.proofs.Decimals.{decimal-length}
 
 -- ---- the parts of a text
@@ -90,25 +91,6 @@ pick-number true r = refl
 pick-number false r = refl
 
 module _ (bs F G : List ℕ) (limit : ℕ) where
-  abbrev Turned : Type 0
-  Turned = (k : ℕ) × (checkOutcome bs F G limit ≡ refused k) × (k ≤ 6)
-
-  -- the check refuses, or the plan is accepted and both tables have all cells
-  abbrev Runs : Type 0
-  Runs = Accepted bs × (cells (planOf bs) ≤ length F) × (cells (planOf bs) ≤ length G)
-
-  pub refuses-or-runs : Turned ⊎ Runs
-  refuses-or-runs = judged (ℕ-discrete (refusal bs) 0)
-    where
-      lent : Accepted bs → Dec (cells (planOf bs) ≤ length F) → Dec (cells (planOf bs) ≤ length G) → Turned ⊎ Runs
-      lent a (yes f) (yes g) = inr (a, f, g)
-      lent a (yes f) (no g) = inl (6, sym (check-short bs F G limit a (short-second (planOf bs) F G f (omega arith)) .0), omega arith)
-      lent a (no f) g = inl (6, sym (check-short bs F G limit a (short-first (planOf bs) F G (omega arith)) .0), omega arith)
-
-      judged : Dec (refusal bs ≡ 0) → Turned ⊎ Runs
-      judged (yes a) = lent a (decLe (cells (planOf bs)) (length F)) (decLe (cells (planOf bs)) (length G))
-      judged (no n) = inl (refusal bs, sym (check-refused bs F G limit (refusal bs) refl n .0), omega (arith, refusal-few bs))
-
   module _ (accepted : Accepted bs) where
     -- the number is at most the limit, and the cells are small
     run-fits : (numberOf (runOutcome (planOf bs) (zeros (planOf bs)) limit) ≤ limit) × Small (runTable (planOf bs) (zeros (planOf bs)) limit) (cells (planOf bs))
@@ -138,9 +120,9 @@ module _ (bs F G : List ℕ) (limit : ℕ) where
 
   -- the text of what the check answers and leaves in the first table
   check-length : limit < 10 ^ 10 → length (textOf (checkOutcome bs F G limit) (planOf bs) (checkTable bs F G limit F)) ≤ 196608
-  check-length h = go refuses-or-runs
+  check-length h = go (refuses-or-runs bs F G limit)
     where
-      go : Turned ⊎ Runs → length (textOf (checkOutcome bs F G limit) (planOf bs) (checkTable bs F G limit F)) ≤ 196608
+      go : ((k : ℕ) × (checkOutcome bs F G limit ≡ refused k) × (k ≤ 6)) ⊎ (Accepted bs × (cells (planOf bs) ≤ length F) × (cells (planOf bs) ≤ length G)) → length (textOf (checkOutcome bs F G limit) (planOf bs) (checkTable bs F G limit F)) ≤ 196608
       go (inl (k, e, j)) = rw e (refused-length k (planOf bs) (checkTable bs F G limit F) (omega arith))
       go (inr (a, f, g)) =
           let d = accepted-bounded bs a in

@@ -1,7 +1,6 @@
-pub mod Decimals
-pub mod Puts
-pub mod DecimalPuts
-pub mod Lengths
+mod Decimals
+mod Puts
+mod DecimalPuts
+mod Lengths
 pub mod PrintedLaws
-pub mod BenchText
-pub mod Verdicts
+mod BenchText

@@ -4,7 +4,7 @@ use mathlib.Core.Bool.{true, false, true≢false}
 use mathlib.Core.Logic.{_⊎_, inl, inr}
 use mathlib.Core.List.{List, _++_, append-nil}
 use Prim.Native.Nat.{ℕ, _*_, _≤_, _<_}
-use native.Mathlib.Nat.{zero-add}
+use native.Mathlib.Nat.{le-refl, zero-add}
 use native.Mathlib.Omega.{arith}
 use lib.ListN.{length, take, drop, length-take}
 use lib.Seq.{take-all, take-append-seam}
@@ -14,10 +14,15 @@ use Rattle.plan.specs.Layout.{planOf}
 use Rattle.plan.specs.Refusal.{Accepted}
 use Rattle.rounds.specs.Outcomes.{Outcome, refused, checkOutcome, checkTable}
 use Rattle.report.specs.Text.{joined, firstLine, pointLine, isRefused, textOf}
-use Rattle.report.specs.Printed.{servingLimit, programOutcome, programTable, printed, overlaid}
-use Rattle.report.specs.Buffer.{Room, Put, Printable}
+use Rattle.rounds.specs.Meaning.{IsSpent, servingLimit, Meaning}
+use Rattle.rounds.specs.AfterCheck.{AfterCheck}
+use Rattle.rounds.proofs.Meanings.{refused-means}
+use Rattle.rounds.proofs.Checking.{refuses-or-runs}
+use Rattle.report.specs.Printed.{programOutcome, programTable, printed, overlaid}
+use Rattle.report.specs.AfterReport.{AfterReport}
+use Rattle.report.specs.Buffer.{TextFits, TextPut, Printable}
 use Rattle.report.proofs.Puts.{sets-overlaid, put-append, room-second}
-use Rattle.report.proofs.Lengths.{refuses-or-runs, run-long, printed-length}
+use Rattle.report.proofs.Lengths.{run-long, printed-length}
 
 -- ---- the lines of a text
 pub text-refused : (o : Outcome) (P : Plan) (T : List ℕ) → isRefused o ≡ true → textOf o P T ≡ firstLine o
@@ -30,23 +35,19 @@ module _ (bs : List ℕ) (o : Outcome) (T : List ℕ) (e : isRefused o ≡ false
   unfolding textOf
   text-lines = rw (e, ew, en) refl
 
-  pub lines-asked : {next : ℕ} {out after : List ℕ} → Printable bs o T → Put (firstLine o) 0 out next after → (n * w ≤ length T) × Room next (joined (pointLine T w) n)
+  pub lines-asked : {next : ℕ} {out after : List ℕ} → Printable bs o T → TextPut (firstLine o) 0 out next after → (n * w ≤ length T) × TextFits next (joined (pointLine T w) n)
   lines-asked p q = (rw (ew, en) (p .accepted e .1), room-second _ _ (rw text-lines at (p .room)) q)
 
-  pub lines-put : {next end : ℕ} {out middle after : List ℕ} → Put (firstLine o) 0 out next middle → Put (joined (pointLine T w) n) next middle end after → Put (textOf o (planOf bs) T) 0 out end after
+  pub lines-put : {next end : ℕ} {out middle after : List ℕ} → TextPut (firstLine o) 0 out next middle → TextPut (joined (pointLine T w) n) next middle end after → TextPut (textOf o (planOf bs) T) 0 out end after
   lines-put p q = rw text-lines (put-append p q)
 
 -- ---- the whole
 module _ (bs F G : List ℕ) where
-  -- what the report ensures
   abbrev Reported : ℕ → List ℕ → List ℕ → List ℕ → List ℕ → Type 0
-  Reported r out after F′ G′ =
-      (r ≡ length (printed bs F G))
-      × ((after ≡ overlaid (printed bs F G) out)
-      × ((F′ ≡ programTable bs F G F) × (G′ ≡ programTable bs F G G)))
+  Reported r out after F′ G′ = AfterReport bs (record { entry = F; exit = F′ }) (record { entry = G; exit = G′ }) (record { entry = out; exit = after }) r
 
-  whole : {r : ℕ} {out after F′ G′ : List ℕ} → Put (printed bs F G) 0 out r after → F′ ≡ programTable bs F G F → G′ ≡ programTable bs F G G → Reported r out after F′ G′
-  whole {r} {out} {after} p f g = (p .next-is ∙ zero-add _, (p .after-is ∙ sets-overlaid (printed bs F G) out, (f, g)))
+  whole : {r : ℕ} {out after F′ G′ : List ℕ} → TextPut (printed bs F G) 0 out r after → F′ ≡ programTable bs F G F → G′ ≡ programTable bs F G G → (IsSpent (programOutcome bs F G) → ⊥) → Meaning (planOf bs) servingLimit (programOutcome bs F G) F′ G′ → Reported r out after F′ G′
+  whole {r} {out} {after} p f g s m = record { length-is = p .next-is ∙ zero-add _; output-is = p .after-is ∙ sets-overlaid (printed bs F G) out; first-is = f; second-is = g; never-spent = s; means = m }
 
   -- ---- over 800 bytes
   module _ (h : 800 < length bs) where
@@ -58,31 +59,39 @@ module _ (bs F G : List ℕ) where
     unfolding printed programOutcome
     long-text = rw (lt-ltb 800 (length bs) h) (text-refused (refused 1) (planOf bs) (programTable bs F G F) refl)
 
-    pub long-reported : {r : ℕ} {out after : List ℕ} → Put (firstLine (refused 1)) 0 out r after → Reported r out after F G
-    long-reported p = whole (rw long-text p) (sym (long-table F)) (sym (long-table G))
+    long-outcome : programOutcome bs F G ≡ refused 1
+    unfolding programOutcome
+    long-outcome = rw (lt-ltb 800 (length bs) h) refl
+
+    pub long-reported : {r : ℕ} {out after : List ℕ} → TextPut (firstLine (refused 1)) 0 out r after → Reported r out after F G
+    long-reported p = whole (rw long-text p) (sym (long-table F)) (sym (long-table G)) (λ s. rw long-outcome at s) (rw long-outcome (refused-means (planOf bs) servingLimit 1 F G))
 
   -- ---- at most 800: the check answered o and left F′ and G′
-  module _ (h : length bs ≤ 800) (o : Outcome) (F′ G′ : List ℕ) (eo : o ≡ checkOutcome bs F G servingLimit) (ef : F′ ≡ checkTable bs F G servingLimit F) (eg : G′ ≡ checkTable bs F G servingLimit G) where
+  module _ (h : length bs ≤ 800) (o : Outcome) (F′ G′ : List ℕ) (k : AfterCheck bs servingLimit (record { entry = F; exit = F′ }) (record { entry = G; exit = G′ }) o) where
     short-table : (L : List ℕ) → programTable bs F G L ≡ checkTable bs F G servingLimit L
     unfolding programTable
     short-table L = rw (le-ltb 800 (length bs) h) refl
 
+    short-outcome : o ≡ programOutcome bs F G
+    unfolding programOutcome
+    short-outcome = rw (le-ltb 800 (length bs) h) (k .outcome-is)
+
     short-text : printed bs F G ≡ textOf o (planOf bs) F′
     unfolding printed programOutcome
-    short-text = rw (le-ltb 800 (length bs) h, short-table F, eo, ef) refl
+    short-text = rw (le-ltb 800 (length bs) h, short-table F, k .outcome-is, k .first-is) refl
 
     accepted-then : isRefused o ≡ false → Accepted bs × (cells (planOf bs) ≤ length F′)
     accepted-then e = go (refuses-or-runs bs F G servingLimit)
       where
-        go : ((k : ℕ) × (checkOutcome bs F G servingLimit ≡ refused k) × (k ≤ 6)) ⊎ (Accepted bs × (cells (planOf bs) ≤ length F) × (cells (planOf bs) ≤ length G)) → Accepted bs × (cells (planOf bs) ≤ length F′)
-        go (inl (k, q, j)) = absurd (true≢false (sym (ap isRefused (eo ∙ q)) ∙ e))
-        go (inr (a, f, g)) = (a, subst⁻¹ (λ (L : List ℕ). cells (planOf bs) ≤ length L) ef (run-long bs F G servingLimit a f g))
+        go : ((n : ℕ) × (checkOutcome bs F G servingLimit ≡ refused n) × (n ≤ 6)) ⊎ (Accepted bs × (cells (planOf bs) ≤ length F) × (cells (planOf bs) ≤ length G)) → Accepted bs × (cells (planOf bs) ≤ length F′)
+        go (inl (n, q, j)) = absurd (true≢false (sym (ap isRefused (k .outcome-is ∙ q)) ∙ e))
+        go (inr (a, f, g)) = (a, subst⁻¹ (λ (L : List ℕ). cells (planOf bs) ≤ length L) (k .first-is) (run-long bs F G servingLimit a f g))
 
     pub short-printable : Printable bs o F′
     short-printable = record { accepted = accepted-then; room = record { room = rw (← short-text) (omega (arith, printed-length bs F G)) } }
 
-    pub short-reported : {r : ℕ} {out after : List ℕ} → Put (textOf o (planOf bs) F′) 0 out r after → Reported r out after F′ G′
-    short-reported p = whole (rw short-text p) (ef ∙ sym (short-table F)) (eg ∙ sym (short-table G))
+    pub short-reported : {r : ℕ} {out after : List ℕ} → TextPut (textOf o (planOf bs) F′) 0 out r after → Reported r out after F′ G′
+    short-reported p = whole (rw short-text p) (k .first-is ∙ sym (short-table F)) (k .second-is ∙ sym (short-table G)) (λ s. k .serves (le-refl _) (rw short-outcome s)) (rw (← short-outcome) (k .means))
 
 -- ---- read back: an output of 196,608 bytes holds the whole text
 overlaid-whole : (text out : List ℕ) → length text ≤ length out → take (length text) (overlaid text out) ≡ text

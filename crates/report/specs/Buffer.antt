@@ -1,4 +1,4 @@
--- What the functions that put text into the output are lent, and what they leave there. For contracts of inner calls only.
+-- For inner contracts only: what the functions that put text into the output are lent, and what they leave there. Nothing here is to be believed.
 use mathlib.Core.Path.{_≡_}
 use mathlib.Core.Bool.{false}
 use mathlib.Core.List.{List}
@@ -12,11 +12,11 @@ use Rattle.rounds.specs.Outcomes.{Outcome}
 use Rattle.report.specs.Text.{isRefused, textOf}
 
 -- a place behind the text is still a small number
-pub record Room (at : ℕ) (text : List ℕ) : Type 0 where
+pub record TextFits (at : ℕ) (text : List ℕ) : Type 0 where
   pub room : at + length text ≤ 1000000
 
 -- the text was put from place at on, as much of it as fits, and next is the place behind it
-pub record Put (text : List ℕ) (at : ℕ) (out : List ℕ) (next : ℕ) (after : List ℕ) : Type 0 where
+pub record TextPut (text : List ℕ) (at : ℕ) (out : List ℕ) (next : ℕ) (after : List ℕ) : Type 0 where
   pub next-is : next ≡ at + length text
   pub after-is : after ≡ sets out at text
   pub length-is : length after ≡ length out
@@ -24,4 +24,4 @@ pub record Put (text : List ℕ) (at : ℕ) (out : List ℕ) (next : ℕ) (after
 -- unless refused, the plan is accepted and the table has all its cells; and there is room for the text
 pub record Printable (bs : List ℕ) (o : Outcome) (T : List ℕ) : Type 0 where
   pub accepted : isRefused o ≡ false → Accepted bs × (cells (planOf bs) ≤ length T)
-  pub room : Room 0 (textOf o (planOf bs) T)
+  pub room : TextFits 0 (textOf o (planOf bs) T)

@@ -1,4 +1,5 @@
 pub mod Decimal
 pub mod Text
 pub mod Printed
+pub mod AfterReport
 pub mod Buffer

@@ -7,15 +7,16 @@ ghost use mathlib.Core.Path.{_≡_};
 ghost use mathlib.Core.List.{_∷_};
 ghost use Prim.Native.Nat.{_+_, _*_, _≤_};
 ghost use lib.ListN.{length};
+ghost use Rattle.plan.specs.Moments.{before, after};
 ghost use Rattle.rounds.specs.Outcomes.{outcomeOf};
 ghost use Rattle.report.specs.Decimal.{decimal};
 ghost use Rattle.report.specs.Text.{joined, numberedLine, firstLine, cellText, pointLine, isRefused};
-ghost use Rattle.report.specs.Buffer.{Room, Put};
+ghost use Rattle.report.specs.Buffer.{TextFits, TextPut};
 
 // A word with the space after it, a number, and a newline.
 fn put_numbered(out: &mut [u8], at: usize, word: &[u8], n: u32) -> usize
-    requires { ⌜ Room at (numberedLine (now word) n) ⌝ }
-    ensures { λ r. ⌜ Put (numberedLine (now (word .entry)) n) at (now (out .entry)) r (now (out .exit)) ⌝ }
+    requires { ⌜ TextFits at (numberedLine (now word) n) ⌝ }
+    ensures { λ r. ⌜ TextPut (numberedLine (before word) n) at (before out) r (after out) ⌝ }
 {
     let number = put_bytes(out, at, word);
     let end = put_decimal(out, number, n as usize);
@@ -23,8 +24,8 @@ fn put_numbered(out: &mut [u8], at: usize, word: &[u8], n: u32) -> usize
 }
 
 pub fn put_answer(out: &mut [u8], at: usize, answer: Answer) -> usize
-    requires { ⌜ Room at (firstLine (outcomeOf answer)) ⌝ }
-    ensures { λ r. ⌜ Put (firstLine (outcomeOf answer)) at (now (out .entry)) r (now (out .exit)) ⌝ }
+    requires { ⌜ TextFits at (firstLine (outcomeOf answer)) ⌝ }
+    ensures { λ r. ⌜ TextPut (firstLine (outcomeOf answer)) at (before out) r (after out) ⌝ }
 {
     match answer {
         Answer::Kept(r) => put_numbered(out, at, b"kept ", r),
@@ -47,8 +48,8 @@ pub fn is_refused(answer: Answer) -> bool
 
 // One space, and a cell.
 fn put_cell(out: &mut [u8], at: usize, cell: u32) -> usize
-    requires { ⌜ Room at (32 ∷ decimal cell) ⌝ }
-    ensures { λ r. ⌜ Put (32 ∷ decimal cell) at (now (out .entry)) r (now (out .exit)) ⌝ }
+    requires { ⌜ TextFits at (32 ∷ decimal cell) ⌝ }
+    ensures { λ r. ⌜ TextPut (32 ∷ decimal cell) at (before out) r (after out) ⌝ }
 {
     let next = put_byte(out, at, b' ');
     put_decimal(out, next, cell as usize)
@@ -56,8 +57,8 @@ fn put_cell(out: &mut [u8], at: usize, cell: u32) -> usize
 
 // The cells of the point whose first is at start.
 fn put_cells(out: &mut [u8], at: usize, table: &[u32], start: usize, width: usize) -> usize
-    requires { ⌜ (start + width ≤ length (now table)) × Room at (joined (cellText (now table) start) width) ⌝ }
-    ensures { λ r. ⌜ Put (joined (cellText (now (table .entry)) start) width) at (now (out .entry)) r (now (out .exit)) ⌝ }
+    requires { ⌜ (start + width ≤ length (now table)) × TextFits at (joined (cellText (now table) start) width) ⌝ }
+    ensures { λ r. ⌜ TextPut (joined (cellText (before table) start) width) at (before out) r (after out) ⌝ }
 {
     let mut next = at;
     for c in 0..width {
@@ -68,8 +69,8 @@ fn put_cells(out: &mut [u8], at: usize, table: &[u32], start: usize, width: usiz
 
 // A point's number, its cells, and a newline.
 fn put_point(out: &mut [u8], at: usize, table: &[u32], width: usize, x: usize) -> usize
-    requires { ⌜ (x * width + width ≤ length (now table)) × Room at (pointLine (now table) width x) ⌝ }
-    ensures { λ r. ⌜ Put (pointLine (now (table .entry)) width x) at (now (out .entry)) r (now (out .exit)) ⌝ }
+    requires { ⌜ (x * width + width ≤ length (now table)) × TextFits at (pointLine (now table) width x) ⌝ }
+    ensures { λ r. ⌜ TextPut (pointLine (before table) width x) at (before out) r (after out) ⌝ }
 {
     let cells = put_decimal(out, at, x);
     let end = put_cells(out, cells, table, x * width, width);
@@ -77,8 +78,8 @@ fn put_point(out: &mut [u8], at: usize, table: &[u32], width: usize, x: usize) -
 }
 
 pub fn put_points(out: &mut [u8], at: usize, table: &[u32], width: usize, points: usize) -> usize
-    requires { ⌜ (points * width ≤ length (now table)) × Room at (joined (pointLine (now table) width) points) ⌝ }
-    ensures { λ r. ⌜ Put (joined (pointLine (now (table .entry)) width) points) at (now (out .entry)) r (now (out .exit)) ⌝ }
+    requires { ⌜ (points * width ≤ length (now table)) × TextFits at (joined (pointLine (now table) width) points) ⌝ }
+    ensures { λ r. ⌜ TextPut (joined (pointLine (before table) width) points) at (before out) r (after out) ⌝ }
 {
     let mut next = at;
     for x in 0..points {

@@ -2,13 +2,14 @@
 ghost use mathlib.Core.Path.{_≡_};
 ghost use mathlib.Core.List.{[], _∷_};
 ghost use Prim.Native.Nat.{_+_, _<_};
+ghost use Rattle.plan.specs.Moments.{before, after};
 ghost use Rattle.report.specs.Decimal.{decimal};
-ghost use Rattle.report.specs.Buffer.{Room, Put};
+ghost use Rattle.report.specs.Buffer.{TextFits, TextPut};
 
 // A byte that does not fit is left out.
 pub fn put_byte(out: &mut [u8], at: usize, byte: u8) -> usize
-    requires { ⌜ Room at (byte ∷ []) ⌝ }
-    ensures { λ r. ⌜ Put (byte ∷ []) at (now (out .entry)) r (now (out .exit)) ⌝ }
+    requires { ⌜ TextFits at (byte ∷ []) ⌝ }
+    ensures { λ r. ⌜ TextPut (byte ∷ []) at (before out) r (after out) ⌝ }
 {
     if at < out.len() {
         out[at] = byte;
@@ -17,8 +18,8 @@ pub fn put_byte(out: &mut [u8], at: usize, byte: u8) -> usize
 }
 
 pub fn put_bytes(out: &mut [u8], at: usize, bytes: &[u8]) -> usize
-    requires { ⌜ Room at (now bytes) ⌝ }
-    ensures { λ r. ⌜ Put (now (bytes .entry)) at (now (out .entry)) r (now (out .exit)) ⌝ }
+    requires { ⌜ TextFits at (now bytes) ⌝ }
+    ensures { λ r. ⌜ TextPut (before bytes) at (before out) r (after out) ⌝ }
 {
     let mut next = at;
     for i in 0..bytes.len() {
@@ -36,8 +37,8 @@ fn digit(d: usize) -> u8
 }
 
 pub fn put_decimal(out: &mut [u8], at: usize, n: usize) -> usize
-    requires { ⌜ Room at (decimal n) ⌝ }
-    ensures { λ r. ⌜ Put (decimal n) at (now (out .entry)) r (now (out .exit)) ⌝ }
+    requires { ⌜ TextFits at (decimal n) ⌝ }
+    ensures { λ r. ⌜ TextPut (decimal n) at (before out) r (after out) ⌝ }
 {
     if n < 10 {
         return put_byte(out, at, digit(n));

@@ -9,8 +9,9 @@ use Rattle.plan.specs.Label.{digit, joinDigit, join, plain, clearDigit}
 use Rattle.plan.specs.LinkSet.{contains, union, insert, remove}
 use Rattle.plan.specs.Layout.{endsAt, dataAt, edgeRow, upOf, downOf, greatest, mostAt, downAt, largestOf, planOf, spareAt, lengthFor}
 use Rattle.plan.specs.Refusal.{every, differs, sizesFit, observerFits, linkEndsFit, durationFits, linkFits, edgeEndsFit, labelFits, edgeFits, refusalOf, refusal}
-use Rattle.rules.specs.Tables.{next}
+use Rattle.rules.specs.Tables.{raiseCell, next}
 use Rattle.rounds.specs.Rounds.{zeros}
+use Rattle.rounds.specs.Meaning.{servingLimit}
 use Rattle.rounds.specs.Outcomes.{Outcome, kept, broken, pick, runOutcome, runTable}
 use Rattle.rounds.proofs.Stopping.{ends-more}
 
@@ -48,7 +49,7 @@ pub record Findings : Type 0 where
   pub outcome : Outcome
   pub table : List ℕ
 
--- what document 01 says
+-- what 16.1 says
 abbrev pub listed : Row → Findings
 listed row = record { turned-down = 0; outcome = pick (row .is-broken) (broken (row .rounds)) (kept (row .rounds)); table = row .cells }
 
@@ -60,7 +61,7 @@ checked limit row =
 
 -- by computation
 with-eight : map (checked 8) rows ≡ map listed rows
-unfolding byteAt wordAt digit joinDigit join plain clearDigit contains union insert remove endsAt dataAt edgeRow upOf downOf greatest mostAt downAt largestOf planOf spareAt lengthFor every differs sizesFit observerFits linkEndsFit durationFits linkFits edgeEndsFit labelFits edgeFits refusalOf refusal next
+unfolding byteAt wordAt digit joinDigit join plain clearDigit contains union insert remove endsAt dataAt edgeRow upOf downOf greatest mostAt downAt largestOf planOf spareAt lengthFor every differs sizesFit observerFits linkEndsFit durationFits linkFits edgeEndsFit labelFits edgeFits refusalOf refusal raiseCell next
 with-eight = refl
 
 module _ (limit : ℕ) (h : 8 ≤ limit) where
@@ -81,5 +82,5 @@ module _ (limit : ℕ) (h : 8 ≤ limit) where
   bench = all-more rows with-eight
 
 -- with the limit that serves every accepted plan
-pub bench-always : map (checked 1946435585) rows ≡ map listed rows
-bench-always = bench 1946435585 (omega arith)
+pub bench-always : map (checked servingLimit) rows ≡ map listed rows
+bench-always = bench servingLimit (omega arith)

@@ -1,48 +1,30 @@
 -- Laws of the check: what it answers and leaves where it refuses, and what rounds from zeros make of the tables.
 use mathlib.Core.Path.{_≡_, refl, sym, ap, ap₂, _∙_}
 use mathlib.Core.Bool.{Bool, true, false, cond, not}
+use mathlib.Core.Logic.{_⊎_, inl, inr}
 use mathlib.Core.List.{List, _++_}
 use mathlib.Core.Option.{none}
 use Prim.Native.Nat.{ℕ, _≤_, _<_}
-use native.Mathlib.Decide.{decLe}
+use native.Mathlib.Decide.{ℕ-discrete, decLe}
 use native.Mathlib.Omega.{arith}
 use lib.Dec.{ltb, eqb}
-use lib.ListN.{length, getD, take, drop, replicate, length-replicate, List·getD-append, List·getD-eq-default}
+use lib.ListN.{length, getD, take, drop, replicate, length-replicate, List·getD-eq-default}
 use borrow.Author.Tests.{lt-ltb, le-ltb, eq-eqb, ne-eqb}
+use Rattle.plan.specs.Moments.{Moments}
 use Rattle.plan.specs.Plan.{Plan, cells}
 use Rattle.plan.specs.Layout.{planOf, lengthFor}
 use Rattle.plan.specs.Refusal.{Accepted, every, sizesFit, observerFits, linkFits, edgeFits, refusalOf, refusal}
 use Rattle.plan.proofs.Ranges.{accepted-well-formed, accepted-bounded}
-use Rattle.raising.specs.Parts.{laidOver}
+use Rattle.rules_fill.specs.Parts.{laidOver}
 use Rattle.rounds.specs.Rounds.{tableFrom, zeros, roundsTo}
 use Rattle.rounds.specs.Outcomes.{Outcome, refused, runOutcome, runTable, tooShort, checkOutcome, checkTable}
-use Rattle.rounds.specs.Demand.{Demand3}
-use Rattle.rounds.specs.Ready.{RoomFrom, Ran}
+use Rattle.rounds.specs.Meaning.{Meaning}
+use Rattle.rounds.specs.AfterCheck.{AfterCheck}
+use Rattle.rounds.specs.Runs.{RoomFrom, Ran}
 use Rattle.rounds.proofs.Stopping.{none-runs}
 use Rattle.rounds.proofs.Small.{table-length, table-high, run-length}
-use Rattle.rounds.proofs.Demand3.{demand-3-bytes}
-use Rattle.rounds.proofs.Turns.{front-is, back-is}
-
--- what the check of an accepted plan ensures, and what the check does
-abbrev pub Told : (bs F G : List ℕ) (limit : ℕ) → Outcome → List ℕ → List ℕ → Type 0
-Told bs F G limit o F′ G′ = (o ≡ checkOutcome bs F G limit) × ((F′ ≡ checkTable bs F G limit F) × (G′ ≡ checkTable bs F G limit G))
-
-abbrev pub Met : (bs F G : List ℕ) (limit : ℕ) → Outcome → List ℕ → List ℕ → Type 0
-Met bs F G limit o F′ G′ =
-    (o ≡ checkOutcome bs F G limit)
-    × ((F′ ≡ checkTable bs F G limit F)
-    × ((G′ ≡ checkTable bs F G limit G)
-    × (Accepted bs → cells (planOf bs) ≤ length F → cells (planOf bs) ≤ length G → Demand3 (planOf bs) limit o F′)))
-
--- demand 3 speaks of the first cells alone
-demand-on : (P : Plan) (limit : ℕ) (o : Outcome) (A B : List ℕ) → length A ≡ cells P → Demand3 P limit o A → Demand3 P limit o (A ++ B)
-demand-on P limit o A B e d = record {
-  broken-then = d .broken-then;
-  kept-then = d .kept-then;
-  longest-waits = λ k c h. rw (List·getD-append A B 0 c (omega arith)) (d .longest-waits k c h);
-  broken-if = d .broken-if;
-  otherwise-kept = d .otherwise-kept;
-}
+use Rattle.rounds.proofs.Meanings.{refused-means, means-on, run-means-bytes, decided}
+use Rattle.rounds.proofs.RoundsMade.{front-is, back-is}
 
 module _ (bs F G : List ℕ) (limit : ℕ) where
   -- ---- where nothing is refused
@@ -55,26 +37,31 @@ module _ (bs F G : List ℕ) (limit : ℕ) where
     unfolding checkTable
     check-leaves L = rw (eq-eqb (refusal bs) 0 accepted, le-ltb (length F) (cells (planOf bs)) f, le-ltb (length G) (cells (planOf bs)) g) refl
 
-  -- ---- all that the check ensures, from its outcome and its tables
-  pub check-all : (o : Outcome) (F′ G′ : List ℕ) → Told bs F G limit o F′ G′ → Met bs F G limit o F′ G′
-  check-all o F′ G′ t = (t .0, (t .1 .0, (t .1 .1, demand)))
-    where
-      demand : Accepted bs → cells (planOf bs) ≤ length F → cells (planOf bs) ≤ length G → Demand3 (planOf bs) limit o F′
-      demand a f g =
-          let P = planOf bs in
-          rw (t .0 ∙ check-runs a f g, t .1 .0 ∙ check-leaves a f g F)
-          (demand-on P limit (runOutcome P (zeros P) limit) (runTable P (zeros P) limit) (drop (cells P) F) (run-length P (accepted-well-formed bs a) (zeros P) (length-replicate (cells P) 0) limit) (demand-3-bytes bs a limit))
-
   -- ---- where it refuses
-  pub check-refused : (k : ℕ) → k ≡ refusal bs → (k ≡ 0 → ⊥) → Met bs F G limit (refused k) F G
-  unfolding checkOutcome checkTable
-  check-refused k e n =
-      let b : eqb (refusal bs) 0 ≡ false = ne-eqb (refusal bs) 0 (λ z. n (e ∙ z)) in
-      check-all (refused k) F G (rw (b, e) refl, (rw b refl, rw b refl))
+  module _ (k : ℕ) (e : k ≡ refusal bs) (n : k ≡ 0 → ⊥) where
+    turned-down : eqb (refusal bs) 0 ≡ false
+    turned-down = ne-eqb (refusal bs) 0 (λ z. n (e ∙ z))
 
-  pub check-short : Accepted bs → tooShort (planOf bs) F G ≡ true → Met bs F G limit (refused 6) F G
-  unfolding checkOutcome checkTable
-  check-short a h = let b = eq-eqb (refusal bs) 0 a in check-all (refused 6) F G (rw (b, h) refl, (rw (b, h) refl, rw (b, h) refl))
+    pub refused-outcome : refused k ≡ checkOutcome bs F G limit
+    unfolding checkOutcome
+    refused-outcome = rw (turned-down, e) refl
+
+    pub refused-table : (L : List ℕ) → L ≡ checkTable bs F G limit L
+    unfolding checkTable
+    refused-table L = rw turned-down refl
+
+  module _ (a : Accepted bs) (h : tooShort (planOf bs) F G ≡ true) where
+    pub short-outcome : refused 6 ≡ checkOutcome bs F G limit
+    unfolding checkOutcome
+    short-outcome = rw (eq-eqb (refusal bs) 0 a, h) refl
+
+    pub short-table : (L : List ℕ) → L ≡ checkTable bs F G limit L
+    unfolding checkTable
+    short-table L = rw (eq-eqb (refusal bs) 0 a, h) refl
+
+-- all that the check promises, where it refused
+pub after-refusal : (bs : List ℕ) (limit k : ℕ) (first second : Moments) → refused k ≡ checkOutcome bs (first .entry) (second .entry) limit → first .exit ≡ checkTable bs (first .entry) (second .entry) limit (first .entry) → second .exit ≡ checkTable bs (first .entry) (second .entry) limit (second .entry) → AfterCheck bs limit first second (refused k)
+after-refusal bs limit k first second e f g = record { outcome-is = e; first-is = f; second-is = g; means = refused-means (planOf bs) limit k (first .exit) (second .exit); serves = λ h s. s }
 
 pub short-first : (P : Plan) (F G : List ℕ) → length F < cells P → tooShort P F G ≡ true
 short-first P F G h = rw (lt-ltb (length F) (cells P) h) refl
@@ -98,6 +85,26 @@ refusal-few bs =
     (at-most (not (every (linkFits P) (P .links))) 4 _ (omega arith)
     (at-most (not (every (edgeFits bs P) (P .edges))) 5 0 (omega arith) (omega arith))))))
 
+-- ---- the check refuses, or its rounds run
+module _ (bs F G : List ℕ) (limit : ℕ) where
+  abbrev Refuses : Type 0
+  Refuses = (k : ℕ) × (checkOutcome bs F G limit ≡ refused k) × (k ≤ 6)
+
+  abbrev Runs : Type 0
+  Runs = Accepted bs × (cells (planOf bs) ≤ length F) × (cells (planOf bs) ≤ length G)
+
+  pub refuses-or-runs : Refuses ⊎ Runs
+  refuses-or-runs = judged (ℕ-discrete (refusal bs) 0)
+    where
+      lent : Accepted bs → Dec (cells (planOf bs) ≤ length F) → Dec (cells (planOf bs) ≤ length G) → Refuses ⊎ Runs
+      lent a (yes f) (yes g) = inr (a, f, g)
+      lent a (yes f) (no g) = inl (6, sym (short-outcome bs F G limit a (short-second (planOf bs) F G f (omega arith))), omega arith)
+      lent a (no f) g = inl (6, sym (short-outcome bs F G limit a (short-first (planOf bs) F G (omega arith))), omega arith)
+
+      judged : Dec (refusal bs ≡ 0) → Refuses ⊎ Runs
+      judged (yes a) = lent a (decLe (cells (planOf bs)) (length F)) (decLe (cells (planOf bs)) (length G))
+      judged (no n) = inl (refusal bs, sym (refused-outcome bs F G limit (refusal bs) refl n), omega (arith, refusal-few bs))
+
 -- ---- rounds from zeros
 module _ (bs : List ℕ) (accepted : Accepted bs) where
   small : (r : ℕ) → roundsTo (planOf bs) (zeros (planOf bs)) r ≡ none → (c : ℕ) → Dec (cells (planOf bs) ≤ c) → getD (tableFrom (planOf bs) (zeros (planOf bs)) r) c 0 ≤ 4000000000
@@ -120,12 +127,33 @@ module _ (bs : List ℕ) (accepted : Accepted bs) where
     pub cleared-room : RoomFrom (planOf bs) (take (cells (planOf bs)) F)
     cleared-room = rw front zeros-room
 
-    pub cleared-ran : (G : List ℕ) (limit : ℕ) (o : Outcome) (F′ G′ : List ℕ) → cells (planOf bs) ≤ length F₀ → cells (planOf bs) ≤ length G → Ran (planOf bs) F G limit o F′ G′ → Told bs F₀ G limit o F′ G′
-    cleared-ran G limit o F′ G′ f g r =
-        let P = planOf bs in (
-          r .outcome-is ∙ ap (λ (l : List ℕ). runOutcome P l limit) front ∙ sym (check-runs bs F₀ G limit accepted f g),
-          (
-            r .first-is ∙ ap₂ (λ (l m : List ℕ). runTable P l limit ++ m) front (ap (drop (cells P)) over ∙ back-is (cells P) (zeros P) F₀ (length-replicate (cells P) 0)) ∙ sym (check-leaves bs F₀ G limit accepted f g F₀),
-            r .second-is ∙ ap (λ (l : List ℕ). runTable P l limit ++ drop (cells P) G) front ∙ sym (check-leaves bs F₀ G limit accepted f g G),
-          ),
-        )
+    pub cleared-ran : (limit : ℕ) (o : Outcome) (first second : Moments) → first .entry ≡ F₀ → cells (planOf bs) ≤ length F₀ → cells (planOf bs) ≤ length (second .entry) → Ran (planOf bs) F (second .entry) limit o (first .exit) (second .exit) → AfterCheck bs limit first second o
+    cleared-ran limit o first second at f g r = record {
+      outcome-is = outcome;
+      first-is = table-first ∙ sym (leaves (first .entry));
+      second-is = table-second ∙ sym (leaves (second .entry));
+      means = means;
+      serves = decided bs accepted limit o (first .exit) (second .exit) means;
+    }
+      where
+        P : Plan
+        P = planOf bs
+
+        long : cells P ≤ length (first .entry)
+        long = rw at f
+
+        outcome : o ≡ checkOutcome bs (first .entry) (second .entry) limit
+        outcome = r .outcome-is ∙ ap (λ (l : List ℕ). runOutcome P l limit) front ∙ sym (check-runs bs (first .entry) (second .entry) limit accepted long g)
+
+        leaves : (L : List ℕ) → checkTable bs (first .entry) (second .entry) limit L ≡ runTable P (zeros P) limit ++ drop (cells P) L
+        leaves = check-leaves bs (first .entry) (second .entry) limit accepted long g
+
+        table-first : first .exit ≡ runTable P (zeros P) limit ++ drop (cells P) (first .entry)
+        table-first = r .first-is ∙ ap₂ (λ (l m : List ℕ). runTable P l limit ++ m) front (ap (drop (cells P)) over ∙ back-is (cells P) (zeros P) F₀ (length-replicate (cells P) 0) ∙ ap (drop (cells P)) (sym at))
+
+        table-second : second .exit ≡ runTable P (zeros P) limit ++ drop (cells P) (second .entry)
+        table-second = r .second-is ∙ ap (λ (l : List ℕ). runTable P l limit ++ drop (cells P) (second .entry)) front
+
+        means : Meaning P limit o (first .exit) (second .exit)
+        means = rw (r .outcome-is ∙ ap (λ (l : List ℕ). runOutcome P l limit) front, table-first, table-second)
+            (means-on P limit (runOutcome P (zeros P) limit) (runTable P (zeros P) limit) (drop (cells P) (first .entry)) (drop (cells P) (second .entry)) (run-length P (accepted-well-formed bs accepted) (zeros P) (length-replicate (cells P) 0) limit) (run-means-bytes bs accepted limit))

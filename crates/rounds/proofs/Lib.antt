@@ -1,9 +1,9 @@
 pub mod Bound
 pub mod Stopping
-pub mod Sums
+mod Sums
 pub mod Verdict
-pub mod Demand3
+pub mod Meanings
 pub mod Small
-pub mod Turns
+pub mod RoundsMade
 pub mod Checking
-pub mod Bench
+mod Bench

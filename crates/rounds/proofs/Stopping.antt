@@ -8,7 +8,7 @@ use Prim.Native.Nat.{ℕ, zero, suc, _+_, _-_, _≤_, _<_}
 use native.Mathlib.Decide.{ℕ-discrete}
 use native.Mathlib.Omega.{arith}
 use Rattle.plan.specs.Plan.{Plan}
-use Rattle.tables.specs.Cells.{same}
+use Rattle.rounds_tables.specs.Cells.{same}
 use Rattle.rounds.specs.Rounds.{tableFrom, firstAlarmWaits, stopsAt, firstStop, roundsTo}
 use Rattle.rounds.specs.Outcomes.{Outcome, kept, broken, spent, pick, ended, endTable, runOutcome, runTable}
 

@@ -9,7 +9,7 @@ use native.Mathlib.Omega.{arith}
 use lib.Dec.{eqb}
 use lib.ListN.{length, getD}
 use borrow.Author.Tests.{eqb-false}
-use Rattle.tables.specs.Cells.{same}
+use Rattle.rounds_tables.specs.Cells.{same}
 
 pub sum : List ℕ → ℕ
 sum [] = 0

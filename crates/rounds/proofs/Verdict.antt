@@ -21,9 +21,9 @@ use Rattle.rules.proofs.Deriving.{Reached}
 use Rattle.rules.proofs.Cells.{cell-lt, cell-at, at-range}
 use Rattle.rules.proofs.Next.{Cell, IsNext, next-is}
 use Rattle.rules.proofs.Sound.{next-cases, Sound, sound-next, complete}
-use Rattle.tables.proofs.Comparing.{none-above, some-above}
+use Rattle.rounds_tables.proofs.Comparing.{none-above, some-above}
 use Rattle.rounds.specs.Rounds.{tableFrom, zeros, firstAlarmWaits}
-use Rattle.rounds.specs.Demand.{HoldsLongest}
+use Rattle.rounds.specs.Meaning.{HoldsLongest}
 use Rattle.rounds.proofs.Bound.{Quiet, Low, first-cell, quiet-no-line, given-plain, low-next, high-next}
 use Rattle.rounds.proofs.Stopping.{Running, running-less, tests-fail}
 

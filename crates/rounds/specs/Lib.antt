@@ -1,4 +1,5 @@
 pub mod Rounds
 pub mod Outcomes
-pub mod Demand
-pub mod Ready
+pub mod Meaning
+pub mod AfterCheck
+pub mod Runs

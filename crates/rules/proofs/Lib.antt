@@ -4,11 +4,5 @@ pub mod InRange
 pub mod Monotone
 pub mod Cells
 pub mod Next
-pub mod Parts
 pub mod Sound
-pub mod Fill
 pub mod Growth
-pub mod ShapeLaws
-pub mod ShapeGives
-pub mod ShapeRows
-pub mod ShapeWhole

@@ -18,8 +18,7 @@ use Rattle.rules.specs.declared.Rule.{Rule}
 use Rattle.rules.specs.declared.Rule.the-variants.{Propagation, LowerCase, UpperCase, LetterRemoval, OwnLiteral, LiteralRemoval}
 use Rattle.rules.specs.Lines.{fromTo, below, cellOf, lineAt, startingLine, starting}
 use Rattle.rules.specs.Rules.{fires, result}
-use Rattle.rules.specs.Steps.{raiseCell}
-use Rattle.rules.specs.Tables.{each, linesOf, rulesOf, secondsOf, allGiven, raised, next}
+use Rattle.rules.specs.Tables.{raiseCell, each, linesOf, rulesOf, secondsOf, allGiven, raised, next}
 use Rattle.rules.specs.Derivations.{Starting, InPlan, Parent, Given}
 use Rattle.rules.proofs.Raising.{Raises, raises-cell, raises-then, raises-iff}
 use Rattle.rules.proofs.InRange.{InRange, range}
@@ -209,7 +208,6 @@ record Among (P : Plan) (ls : List Line) (c w : ℕ) : Type 0 where
   wait-is : line .wait ≡ w
 
 raised-raises : (P : Plan) (n : ℕ) (ls : List Line) → ((l : Line) → List·Memᴰ l ls → cellOf P l < n) → Raises n (Among P ls) (λ A. raised P A ls)
-unfolding raiseCell
 raised-raises P n [] fit = record { as-long = λ A l. l; no-lower = λ A l c. le-refl _; reason = λ A l c. inl refl; covers = λ A l c w x. absurd (List·Memᴰ·not-nil (x .among)) }
 raised-raises P n (l ∷ ls) fit =
     raises-iff n (λ c w. ((c ≡ cellOf P l) × (w ≡ l .wait)) ⊎ Among P ls c w) (Among P (l ∷ ls)) (λ A. raised P A (l ∷ ls)) to back

@@ -1,4 +1,4 @@
--- Derivations (document 01, "Lines and the six rules"), oldest line first.
+-- Derivations (7), oldest line first.
 use mathlib.Core.Path.{_≡_}
 use mathlib.Core.Logic.{_⊎_}
 use mathlib.Core.List.{List, [], _∷_, List·Memᴰ}
@@ -13,7 +13,7 @@ use Rattle.rules.specs.declared.Rule.the-variants.{Propagation, LowerCas
 use Rattle.rules.specs.Lines.{cellOf, startingLine}
 use Rattle.rules.specs.Rules.{fires, result}
 
--- the rule's row is one of the plan's links, edges, horizon edges or observing points
+-- 7.1: the rule's row is one of the plan's links, edges, horizon edges or observing points
 abbrev pub InPlan : Plan → Rule → Type 0
 InPlan P (Propagation (PlanEdge i)) = i < P .edges
 InPlan P (Propagation (HorizonEdge x)) = (0 < x) × (x < P .points)
@@ -23,15 +23,16 @@ InPlan P (LetterRemoval i) = i < P .links
 InPlan P (OwnLiteral j) = j < P .propositions
 InPlan P (LiteralRemoval j) = j < P .propositions
 
+-- 5.3: a starting line of one of the plan's points
 pub record Starting (P : Plan) (l : Line) : Type 0 where
   pub inside : l .point < P .points
   pub is-starting : l ≡ startingLine (l .point)
 
--- a starting line, or one that H holds of
+-- 7.1: a starting line, or one that H holds of
 abbrev pub Parent : Plan → (Line → Type 0) → Line → Type 0
 Parent P H l = Starting P l ⊎ H l
 
--- one of the six rules, with a row of the plan, gives k from two parents
+-- 7.1: one of the six rules, with a row of the plan, gives k from two parents
 pub record Given (P : Plan) (H : Line → Type 0) (k : Line) : Type 0 where
   pub rule : Rule
   pub row : InPlan P rule
@@ -42,36 +43,36 @@ pub record Given (P : Plan) (H : Line → Type 0) (k : Line) : Type 0 where
   pub fire : Is (fires P rule first second)
   pub gave : result P rule first second ≡ k
 
--- each line is given from starting lines, lines of `earlier`, and those before it in the list
+-- 7.1: each line is given from starting lines, lines of `earlier`, and those before it in the list
 abbrev pub Follows : Plan → List Line → List Line → Type 0
 Follows P earlier [] = Unit {0}
 Follows P earlier (k ∷ ks) = Given P (λ l. List·Memᴰ l earlier) k × Follows P (k ∷ earlier) ks
 
--- a derivation from a plan: a finite list of lines, the empty list too
+-- 7.1: a derivation from a plan: a finite list of lines, the empty list too
 abbrev pub Derivation : Plan → List Line → Type 0
 Derivation P ks = Follows P [] ks
 
--- "A derivation reaches wait w in a cell if one of its lines belongs to that cell and waits w"
+-- 7.3: the derivation reaches the wait w in cell c
 pub record ReachesBy (P : Plan) (c w : ℕ) (ks : List Line) : Type 0 where
   pub line : Line
   pub among : List·Memᴰ line ks
   pub belongs : cellOf P line ≡ c
   pub waits : line .wait ≡ w
 
--- some derivation does
+-- 7.3: some derivation does
 pub record Reaches (P : Plan) (c w : ℕ) : Type 0 where
   pub lines : List Line
   pub derives : Derivation P lines
   pub by : ReachesBy P c w lines
 
--- "makes the first alarm wait for itself if it has a derived line of point 0 with a plain label"
+-- 7.4: the derivation makes the first alarm wait for itself
 pub record SelfWaitBy (P : Plan) (ks : List Line) : Type 0 where
   pub line : Line
   pub among : List·Memᴰ line ks
   pub first-alarm : line .point ≡ 0
   pub is-plain : Is (plain (P .propositions) (line .label))
 
--- some derivation does
+-- 7.4: some derivation does
 pub record SelfWait (P : Plan) : Type 0 where
   pub lines : List Line
   pub derives : Derivation P lines

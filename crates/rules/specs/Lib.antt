@@ -2,5 +2,3 @@ pub mod Lines
 pub mod Rules
 pub mod Tables
 pub mod Derivations
-pub mod Steps
-pub mod Shapes

@@ -1,4 +1,4 @@
--- Lines and cells (document 01, "Lines and the six rules"). The record Line is the code's struct.
+-- Lines and cells (5). The record Line (5.1) is the code's struct.
 use mathlib.Core.List.{List, [], _∷_, map}
 use Prim.Native.Nat.{ℕ, zero, suc, _+_, _*_, _/_, _%_, _^_}
 use lib.ListN.{getD}
@@ -13,15 +13,15 @@ fromTo i (suc n) = i ∷ fromTo (suc i) n
 abbrev pub below : ℕ → List ℕ
 below n = fromTo 0 n
 
--- "A line belongs to the cell of its point, set and label": cell (X × 2^k + set) × 4^p + label
+-- 5.2, 7.2: the cell that a line belongs to
 abbrev pub cellOf : Plan → Line → ℕ
 cellOf P l = (l .point * 2 ^ P .links + l .set) * 4 ^ P .propositions + l .label
 
--- the line of cell c, with the wait that a table holds there
+-- 5.2, 5.4: the line of cell c, with the wait that a table holds there
 abbrev pub lineAt : Plan → List ℕ → ℕ → Line
 lineAt P T c = record { point = c / 4 ^ P .propositions / 2 ^ P .links; set = c / 4 ^ P .propositions % 2 ^ P .links; label = c % 4 ^ P .propositions; wait = getD T c 0 }
 
--- "Starting lines: wait 0 at every point, Z too, with set 0 and label 0"
+-- 5.3: the starting line of a point, and those of a plan
 abbrev pub startingLine : ℕ → Line
 startingLine x = record { point = x; set = 0; label = 0; wait = 0 }
 

@@ -1,15 +1,9 @@
 // Lines and the six rules.
-mod shapes;
+mod parents;
 
-pub use shapes::Propagator;
-pub use shapes::Remover;
-pub use shapes::cleared;
-pub use shapes::lesser;
-pub use shapes::propagated;
-pub use shapes::removed;
-pub use shapes::touches;
+pub use parents::uses_second;
 
-// "Line", document 01's term: the point waits that many seconds after the first alarm, under a link set and a label.
+// A line: the point waits that many seconds after the first alarm, under a link set and a label.
 // The wait is 64 bits wide, so that any wait of a listing is one.
 pub struct Line {
     pub point: usize,
@@ -32,4 +26,11 @@ pub enum Rule {
     LetterRemoval(usize),
     OwnLiteral(usize),
     LiteralRemoval(usize),
+}
+
+// A rule with its row, and its parents: cells of a table, or line numbers of a listing. The second is 0 for a rule of one parent.
+pub struct Ground {
+    pub by: Rule,
+    pub first: usize,
+    pub second: usize,
 }

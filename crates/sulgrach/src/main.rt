@@ -5,13 +5,14 @@ use report::report;
 ghost use mathlib.Core.Path.{_≡_};
 ghost use Prim.Native.Nat.{_≤_};
 ghost use lib.ListN.{length, take, replicate};
+ghost use Rattle.plan.specs.Moments.{before, after};
 ghost use Rattle.report.specs.Printed.{printed};
 
 // The text for an input, at the start of an output that holds every text.
 fn text(input: &[u8], out: &mut [u8]) -> usize
     requires { ⌜ 196608 ≤ length (now out) ⌝ }
-    ensures { λ r. ⌜ (r ≤ length (now (out .exit))) × (r ≡ length (take r (now (out .exit)))) ⌝ }
-    ensures { λ r. ⌜ take r (now (out .exit)) ≡ printed (now (input .entry)) (replicate 16384 0) (replicate 16384 0) ⌝ }
+    ensures { λ r. ⌜ (r ≤ length (after out)) × (r ≡ length (take r (after out))) ⌝ }
+    ensures { λ r. ⌜ take r (after out) ≡ printed (before input) (replicate 16384 0) (replicate 16384 0) ⌝ }
 {
     let mut first = [0u32; 16384];
     let mut second = [0u32; 16384];

@@ -22,7 +22,7 @@ returns : tie.Need-returns
 returns c =
     let s = c .before .before .before .before .before .before .before .before .before .before in
     let k = c .before .before .before .before .report in
-    read-back (now (s .args .input)) (replicate 16384 0) (replicate 16384 0) (k .result) (now (s .args .out)) _ (s .pre) (k .ensures .0) (k .ensures .1 .0)
+    read-back (now (s .args .input)) (replicate 16384 0) (replicate 16384 0) (k .result) (now (s .args .out)) _ (s .pre) (k .ensures .length-is) (k .ensures .output-is)
 
 pub text-spec : {M : Type 1} → statement M
 text-spec =

@@ -15,7 +15,7 @@ put-count-requires c κs = search needs
 code-requires : tie.Need-code-requires
 code-requires c κs =
     let s = c .before .before .before .before .before .before .before .before .before .before .before .before .before .before .before .args in
-    rw (c .before .before .before .before .before .before .before .before .check .ensures .0) (omega (arith, check-few (now (s .plan)) (now (s .first)) (now (s .second)) (s .limit)))
+    rw (c .before .before .before .before .before .before .before .before .check .ensures .outcome-is) (omega (arith, check-few (now (s .plan)) (now (s .first)) (now (s .second)) (s .limit)))
 
 same-length : tie.Need-same-length
 same-length c = search needs
@@ -30,7 +30,7 @@ returns : tie.Need-returns
 returns c =
     let k = c .before .before .before .before .before .before .before .before .before .check .ensures in
     let p = c .before .before .before .put-count .ensures in
-    (rw (k .0) at (c .code .ensures), (k .1 .0, (k .1 .1 .0, (rw (k .0) at (p .0), rw (k .0) at (k .1 .1 .1)))))
+    record { outcome = _; check = k; code-is = c .code .ensures; rounds-are = p .0 }
 
 pub sulgrach-check-spec : {M : Type 1} → statement M
 sulgrach-check-spec =

@@ -1,8 +1,9 @@
 -- What the listing answers, as a code, a count and a length.
+use mathlib.Core.Path.{ap, _∙_}
 use native.Mathlib.Omega.{arith}
 use denote.Ref.{now}
 use borrow.Author.Needs.{needs}
-use Rattle.plan.specs.Layout.{planOf}
+use Rattle.interface.specs.Codes.{codeOf}
 use Rattle.interface.proofs.ListLaws.{list-fits, numbers-told}
 use Rattle.interface.proofs.list.sulgrach_list.Statement.{statement}
 use Rattle.interface.proofs.list.sulgrach_list.Tie as tie
@@ -20,12 +21,12 @@ put-length-requires : tie.Need-put-length-requires
 put-length-requires c κs =
     let s = c .before .before .before .before .before .before .before .before .before .before .before .before .before .before .before .before .before .before .before .before .before .before .before .before .before .args in
     let k = c .before .before .before .before .before .before .before .before .before .before .before .before .before .before .list .ensures in
-    rw (k .1 .0, k .0) (omega (arith, list-fits (now (s .plan)) (now (s .first)) (now (s .second)) (s .limit) (now (s .index)) (now (s .out)) .1))
+    rw (k .length-is, k .outcome-is) (omega (arith, list-fits (now (s .plan)) (now (s .first)) (now (s .second)) (s .limit) (now (s .index)) (now (s .out)) .1))
 
 code-requires : tie.Need-code-requires
 code-requires c κs =
     let s = c .before .before .before .before .before .before .before .before .before .before .before .before .before .before .before .before .before .before .before .before .before .before .before .before .before .before .before .before .args in
-    rw (c .before .before .before .before .before .before .before .before .answer .ensures, c .before .before .before .before .before .before .before .before .before .before .before .before .before .before .before .before .before .list .ensures .0) (omega (arith, list-fits (now (s .plan)) (now (s .first)) (now (s .second)) (s .limit) (now (s .index)) (now (s .out)) .0))
+    rw (c .before .before .before .before .before .before .before .before .answer .ensures, c .before .before .before .before .before .before .before .before .before .before .before .before .before .before .before .before .before .list .ensures .outcome-is) (omega (arith, list-fits (now (s .plan)) (now (s .first)) (now (s .second)) (s .limit) (now (s .index)) (now (s .out)) .0))
 
 same-length : tie.Need-same-length
 same-length c = search needs
@@ -47,7 +48,7 @@ returns c =
     let s = c .before .before .before .before .before .before .before .before .before .before .before .before .before .before .before .before .before .before .before .before .before .before .before .before .before .before .before .before .before .args in
     let k = c .before .before .before .before .before .before .before .before .before .before .before .before .before .before .before .before .before .before .list .ensures in
     let a = c .before .before .before .before .before .before .before .before .before .answer .ensures in
-    (rw (a, k .0) at (c .code .ensures), (k .1 .1 .0, (k .1 .1 .1 .0, (rw (k .0) at (k .1 .1 .1 .1 .0), (rw (k .0) at (k .1 .1 .1 .1 .1), numbers-told (planOf (now (s .plan))) (now (s .numbers)) a (k .0) (k .1 .0) (c .before .before .before .before .before .before .before .put-count .ensures .0) (c .before .before .before .put-length .ensures .0))))))
+    record { outcome = _; bytes = _; list = k; code-is = c .code .ensures ∙ ap codeOf a; numbers-are = numbers-told (now (s .numbers)) _ a (c .before .before .before .before .before .before .before .put-count .ensures .0) (c .before .before .before .put-length .ensures .0) }
 
 pub sulgrach-list-spec : {M : Type 1} → statement M
 sulgrach-list-spec =

@@ -6,11 +6,11 @@ use Rattle.plan.specs.Bytes.{byteAt}
 use Rattle.plan.proofs.bytes.byte_at.Statement.{statement}
 use Rattle.plan.proofs.bytes.byte_at.Tie as tie
 
-shared-slice-read-widened : tie.Need-shared-slice-read-widened
-shared-slice-read-widened c = search needs
+shared-slice-read-widen-byte : tie.Need-shared-slice-read-widen-byte
+shared-slice-read-widen-byte c = search needs
 
-widened-requires : tie.Need-widened-requires
-widened-requires c κs = search needs
+widen-byte-requires : tie.Need-widen-byte-requires
+widen-byte-requires c κs = search needs
 
 returns : tie.Need-returns
 unfolding byteAt
@@ -21,4 +21,4 @@ unfolding byteAt
 returns-2 c = (sym (List·getD-eq-default (c .before .before .args .bytes .now) 0 (c .if1 .left)), search needs)
 
 pub byte-at-spec : {M : Type 1} → statement M
-byte-at-spec = tie.close (tie.spec shared-slice-read-widened widened-requires returns returns-2)
+byte-at-spec = tie.close (tie.spec shared-slice-read-widen-byte widen-byte-requires returns returns-2)

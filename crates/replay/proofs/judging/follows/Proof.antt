@@ -1,6 +1,6 @@
 -- `replay::judging::follows` meets its contract: each return by the tests that led there.
 use borrow.Author.Needs.{needs}
-use Rattle.replay.proofs.JudgeLaws.{first-reached, second-reached, first-in, second-in, second-unfit, follows-by}
+use Rattle.replay.proofs.JudgeLaws.{first-reached, second-reached, parents-lent, second-unfit, follows-by}
 use Rattle.replay.proofs.judging.follows.Statement.{statement}
 use Rattle.replay.proofs.judging.follows.Tie as tie
 
@@ -26,7 +26,7 @@ head-line-requires : tie.Need-head-line-requires
 head-line-requires c κs = search needs
 
 gives-line-requires : tie.Need-gives-line-requires
-gives-line-requires c κs = search (needs, first-in, second-in)
+gives-line-requires c κs = search parents-lent
 
 returns-2 : tie.Need-returns-2
 returns-2 c = search follows-by

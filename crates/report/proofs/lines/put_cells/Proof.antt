@@ -5,13 +5,13 @@ use native.Mathlib.Omega.{arith}
 use denote.Ref.{now}
 use borrow.Author.Needs.{needs}
 use Rattle.report.specs.Text.{joined, cellText}
-use Rattle.report.specs.Buffer.{Put}
+use Rattle.report.specs.Buffer.{TextPut}
 use Rattle.report.proofs.Puts.{put-none, put-joined, room-joined}
 use Rattle.report.proofs.lines.put_cells.Statement.{statement}
 use Rattle.report.proofs.lines.put_cells.Tie as tie
 
 abbrev Inv-loop : tie.InvT-loop
-Inv-loop out₀ at table start width next₀ c₀ out next c = (c ≤ width) × Put (joined (cellText table start) c) at out₀ next out
+Inv-loop out₀ at table start width next₀ c₀ out next c = (c ≤ width) × TextPut (joined (cellText table start) c) at out₀ next out
 
 abbrev μ-loop : tie.MeasureT-loop
 μ-loop out₀ at table start width next₀ c₀ out next c = width - c

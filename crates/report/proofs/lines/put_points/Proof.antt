@@ -4,15 +4,15 @@ use Prim.Native.Nat.{_-_, _≤_}
 use native.Mathlib.Omega.{arith}
 use denote.Ref.{now}
 use borrow.Author.Needs.{needs}
-use Rattle.tables.proofs.Tabling.{row-within}
+use Rattle.rounds_tables.proofs.RoundLaws.{row-within}
 use Rattle.report.specs.Text.{joined, pointLine}
-use Rattle.report.specs.Buffer.{Put}
+use Rattle.report.specs.Buffer.{TextPut}
 use Rattle.report.proofs.Puts.{put-none, put-joined, room-joined}
 use Rattle.report.proofs.lines.put_points.Statement.{statement}
 use Rattle.report.proofs.lines.put_points.Tie as tie
 
 abbrev Inv-loop : tie.InvT-loop
-Inv-loop out₀ at table width points next₀ x₀ out next x = (x ≤ points) × Put (joined (pointLine table width) x) at out₀ next out
+Inv-loop out₀ at table width points next₀ x₀ out next x = (x ≤ points) × TextPut (joined (pointLine table width) x) at out₀ next out
 
 abbrev μ-loop : tie.MeasureT-loop
 μ-loop out₀ at table width points next₀ x₀ out next x = points - x

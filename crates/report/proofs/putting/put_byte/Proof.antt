@@ -4,7 +4,7 @@ use mathlib.Core.List.{[], _∷_}
 use Prim.Native.Nat.{_+_}
 use denote.Ref.{now}
 use borrow.Author.Needs.{needs}
-use Rattle.report.specs.Buffer.{Put}
+use Rattle.report.specs.Buffer.{TextPut}
 use Rattle.report.proofs.Puts.{put-in, put-out}
 use Rattle.report.proofs.putting.put_byte.Statement.{statement}
 use Rattle.report.proofs.putting.put_byte.Tie as tie
@@ -15,7 +15,7 @@ slice-write-out c = search needs
 add-result : tie.Need-add-result
 add-result c = search needs
 
-put : (c : tie.Joined1) → let s = c .before .args in Put (s .byte ∷ []) (s .at) (now (s .out)) (s .at + 1) (c .if1 .out)
+put : (c : tie.Joined1) → let s = c .before .args in TextPut (s .byte ∷ []) (s .at) (now (s .out)) (s .at + 1) (c .if1 .out)
 put c = ⊎-elim (λ w. put-in (w .1)) (λ w. put-out (w .0 .left) (w .1)) (c .if1 .came)
 
 same-length : tie.Need-same-length

@@ -26,7 +26,7 @@ put-text-requires : tie.Need-put-text-requires
 put-text-requires c κs =
     let s = c .before .before .before .before .before .before .before .before .before .before .before .before .before .before .args in
     let k = c .before .before .before .before .before .before .check in
-    short-printable (now (s .input)) (now (s .first)) (now (s .second)) (search needs) _ _ _ (k .ensures .0) (k .ensures .1 .0) (k .ensures .1 .1 .0)
+    short-printable (now (s .input)) (now (s .first)) (now (s .second)) (search needs) _ _ _ (k .ensures)
 
 same-length-2 : tie.Need-same-length-2
 same-length-2 c = search needs
@@ -41,7 +41,7 @@ returns-2 : tie.Need-returns-2
 returns-2 c =
     let s = c .before .before .before .before .before .before .before .before .before .before .before .before .before .before .before .before .before .args in
     let k = c .before .before .before .before .before .before .before .before .before .check in
-    short-reported (now (s .input)) (now (s .first)) (now (s .second)) (search needs) _ _ _ (k .ensures .0) (k .ensures .1 .0) (k .ensures .1 .1 .0) (c .before .before .put-text .ensures)
+    short-reported (now (s .input)) (now (s .first)) (now (s .second)) (search needs) _ _ _ (k .ensures) (c .before .before .put-text .ensures)
 
 pub report-spec : {M : Type 1} → statement M
 report-spec =

@@ -1,11 +1,11 @@
--- A refusal leaves the tables as they were; else the check of an accepted plan answers. Demand 3 follows from the outcome and the tables.
+-- A refusal leaves the tables as they were; else the check of an accepted plan answers.
 use mathlib.Core.Path.{sym, _∙_}
 use native.Mathlib.Omega.{arith}
 use denote.Ref.{now}
 use borrow.Author.Needs.{needs}
 use Rattle.plan.specs.Layout.{planOf}
 use Rattle.plan.proofs.Ranges.{sizes-few}
-use Rattle.rounds.proofs.Checking.{check-all, check-refused, check-short, short-first, short-second}
+use Rattle.rounds.proofs.Checking.{after-refusal, refused-outcome, refused-table, short-outcome, short-table, short-first, short-second}
 use Rattle.rounds.proofs.running.check.Statement.{statement}
 use Rattle.rounds.proofs.running.check.Tie as tie
 
@@ -15,7 +15,11 @@ refusal-requires c κs = search needs
 returns : tie.Need-returns
 returns c =
     let s = c .before .before .before .before .before in
-    check-refused (now (s .args .plan)) (now (s .args .first)) (now (s .args .second)) (s .args .limit) (c .before .refusal .result) (c .before .refusal .ensures) (c .if1 .taken)
+    let bs = now (s .args .plan) in
+    let F = now (s .args .first) in
+    let G = now (s .args .second) in
+    let e = c .before .refusal .ensures in
+    after-refusal bs (s .args .limit) (c .before .refusal .result) _ _ (refused-outcome bs F G (s .args .limit) _ e (c .if1 .taken)) (refused-table bs F G (s .args .limit) _ e (c .if1 .taken) F) (refused-table bs F G (s .args .limit) _ e (c .if1 .taken) G)
 
 cells-requires : tie.Need-cells-requires
 cells-requires c κs = let s = c .before .before .before .before .before in sizes-few (now (s .args .plan)) (sym (c .before .refusal .ensures) ∙ c .if1 .left)
@@ -24,13 +28,21 @@ returns-2 : tie.Need-returns-2
 returns-2 c =
     let s = c .before .before .before .before .before .before .before in
     let bs = now (s .args .plan) in
-    check-short bs (now (s .args .first)) (now (s .args .second)) (s .args .limit) (sym (c .before .before .before .refusal .ensures) ∙ c .before .before .if1 .left) (short-first (planOf bs) (now (s .args .first)) (now (s .args .second)) (omega (arith, c .before .cells .ensures)))
+    let F = now (s .args .first) in
+    let G = now (s .args .second) in
+    let a = sym (c .before .before .before .refusal .ensures) ∙ c .before .before .if1 .left in
+    let h = short-first (planOf bs) F G (omega (arith, c .before .cells .ensures)) in
+    after-refusal bs (s .args .limit) 6 _ _ (short-outcome bs F G (s .args .limit) a h) (short-table bs F G (s .args .limit) a h F) (short-table bs F G (s .args .limit) a h G)
 
 returns-3 : tie.Need-returns-3
 returns-3 c =
     let s = c .before .before .before .before .before .before .before .before in
     let bs = now (s .args .plan) in
-    check-short bs (now (s .args .first)) (now (s .args .second)) (s .args .limit) (sym (c .before .before .before .before .refusal .ensures) ∙ c .before .before .before .if1 .left) (short-second (planOf bs) (now (s .args .first)) (now (s .args .second)) (omega (arith, c .before .before .cells .ensures)) (omega (arith, c .before .before .cells .ensures)))
+    let F = now (s .args .first) in
+    let G = now (s .args .second) in
+    let a = sym (c .before .before .before .before .refusal .ensures) ∙ c .before .before .before .if1 .left in
+    let h = short-second (planOf bs) F G (omega (arith, c .before .before .cells .ensures)) (omega (arith, c .before .before .cells .ensures)) in
+    after-refusal bs (s .args .limit) 6 _ _ (short-outcome bs F G (s .args .limit) a h) (short-table bs F G (s .args .limit) a h F) (short-table bs F G (s .args .limit) a h G)
 
 checked-requires : tie.Need-checked-requires
 checked-requires c κs = search needs
@@ -42,10 +54,7 @@ same-length-2 : tie.Need-same-length-2
 same-length-2 c = search needs
 
 returns-4 : tie.Need-returns-4
-returns-4 c =
-    let k = c .before .before .before .before .checked in
-    let s = c .before .before .before .before .before .before .before .before .before .before .before .before .before .before .before in
-    check-all (now (s .args .plan)) (now (s .args .first)) (now (s .args .second)) (s .args .limit) _ _ _ (k .ensures)
+returns-4 c = c .before .before .before .before .checked .ensures
 
 pub check-spec : {M : Type 1} → statement M
 check-spec =

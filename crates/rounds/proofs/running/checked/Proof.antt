@@ -1,4 +1,5 @@
 -- The first table's cells are cleared, so the rounds start from zeros.
+use mathlib.Core.Path.{refl}
 use denote.Ref.{now}
 use borrow.Author.Needs.{needs}
 use Rattle.plan.proofs.Ranges.{sizes-few}
@@ -38,7 +39,7 @@ returns c =
     let e = c .before .before .before .before .before .before .before .before .before .before .before .before .before .before .cells in
     let s = c .before .before .before .before .before .before .before .before .before .before .before .before .before .before .before .before .before .before in
     let bs = now (s .args .plan) in
-    cleared-ran bs (s .pre .0) _ (now (s .args .first)) (e .result) (e .ensures) (z .ensures .0) (now (s .args .second)) (s .args .limit) _ _ _ (s .pre .1) (s .pre .2) (c .before .before .before .before .run .ensures)
+    cleared-ran bs (s .pre .0) _ (now (s .args .first)) (e .result) (e .ensures) (z .ensures .0) (s .args .limit) _ _ _ refl (s .pre .1) (s .pre .2) (c .before .before .before .before .run .ensures)
 
 pub checked-spec : {M : Type 1} → statement M
 checked-spec =

@@ -1,4 +1,4 @@
--- The loop's invariant: both tables hold the table of the rounds made, none of them stopped, and points that are not in the set are settled.
+-- The loop's invariant: both tables hold the table of the rounds made, none of them stopped, and the next round affects only points with a source in the set.
 use mathlib.Core.Path.{refl, _∙_}
 use Prim.Native.Nat.{_-_, _≤_}
 use native.Mathlib.Omega.{arith}
@@ -8,15 +8,15 @@ use borrow.Author.Needs.{needs}
 use Rattle.plan.specs.Plan.{cells}
 use Rattle.plan.specs.Layout.{planOf}
 use Rattle.plan.proofs.Ranges.{accepted-well-formed, accepted-bounded, sizes-few}
-use Rattle.sources.specs.Sources.{Settled}
+use Rattle.rounds_sources.specs.Sources.{Unaffected}
 use Rattle.rounds.specs.Rounds.{tableFrom}
-use Rattle.rounds.proofs.Turns.{ready-on, alarm-fits, Held, held-none, held-room, held-level, held-settled, held-more, settled-none, settled-again, ran-stopped, ran-spent}
+use Rattle.rounds.proofs.RoundsMade.{alarm-fits, Held, held-none, held-lent, held-more, round-unaffected, unaffected-first, unaffected-more, ran-stopped, ran-spent}
 use Rattle.rounds.proofs.running.rounds_to.Statement.{statement}
 use Rattle.rounds.proofs.running.rounds_to.Tie as tie
 
 abbrev Inv-loop : tie.InvT-loop
 Inv-loop plan marks horizon first₀ second₀ limit width sources changed₀ made₀ first second changed made =
-    (made ≤ limit) × Held (planOf plan) first₀ second₀ made first second × Settled (planOf plan) (tableFrom (planOf plan) (take (cells (planOf plan)) first₀) made) changed
+    (made ≤ limit) × Held (planOf plan) first₀ second₀ made first second × Unaffected (planOf plan) (tableFrom (planOf plan) (take (cells (planOf plan)) first₀) made) changed
 
 abbrev μ-loop : tie.MeasureT-loop
 μ-loop plan marks horizon first₀ second₀ limit width sources changed₀ made₀ first second changed made = limit - made
@@ -34,68 +34,57 @@ loop-holds : tie.Need-loop-holds Inv-loop μ-loop
 loop-holds c =
     let s = c .before .before .before .before .before .before .before in
     let P = planOf (now (s .args .plan)) in
-    (omega arith, held-none P (now (s .args .first)) (now (s .args .second)) (s .pre .2), settled-none P (accepted-well-formed _ (s .pre .0 .accepted)) (accepted-bounded _ (s .pre .0 .accepted) .points-in) (now (s .args .first)) (s .pre .0 .long-first))
+    (omega arith, held-none P (now (s .args .first)) (now (s .args .second)) (s .pre .1 .1), unaffected-first P (accepted-well-formed _ (s .pre .0 .accepted)) (accepted-bounded _ (s .pre .0 .accepted) .points-in) (now (s .args .first)) (s .pre .0 .long-first))
 
 add-made : tie.Need-add-made Inv-loop μ-loop
 add-made c = search needs
 
-slice-aggregate-turn : tie.Need-slice-aggregate-turn Inv-loop μ-loop
-slice-aggregate-turn c = search needs
+slice-aggregate-make-round : tie.Need-slice-aggregate-make-round Inv-loop μ-loop
+slice-aggregate-make-round c = search needs
 
-turn-requires : tie.Need-turn-requires Inv-loop μ-loop
-turn-requires c κs =
+make-round-requires : tie.Need-make-round-requires Inv-loop μ-loop
+make-round-requires c κs =
     let l = c .before .before .before .before .loop in
     let f = c .before .before .before .before .before .before .find-sources in
     let s = c .before .before .before .before .before .before .before .before .before .before .before .before in
-    let h = l .inv .1 in
-    let P = planOf (now (s .args .plan)) in
-    let wf = accepted-well-formed _ (s .pre .0 .accepted) in (
-      ready-on _ _ _ _ _ _ _ (s .pre .0) (h .first-length) (h .second-length),
-      held-room P wf (now (s .args .first)) (s .pre .0 .long-first) (now (s .args .second)) (l .made) (l .first) (l .second) h (s .pre .1),
-      held-level P wf (now (s .args .first)) (s .pre .0 .long-first) (now (s .args .second)) (l .made) (l .first) (l .second) h,
-      record {
-        long = omega (arith, f .ensures .1, accepted-bounded _ (s .pre .0 .accepted) .points-in);
-        sources-are = f .ensures .0;
-        settled = held-settled P wf (now (s .args .first)) (s .pre .0 .long-first) (now (s .args .second)) (l .made) (l .first) (l .second) h (l .changed) (l .inv .2);
-      },
-    )
+    held-lent _ _ _ (now (s .args .first)) (now (s .args .second)) (s .pre .0) (s .pre .1 .0) (l .made) (l .first) (l .second) (l .inv .1) _ _ (f .ensures .0) (omega (arith, f .ensures .1, accepted-bounded _ (s .pre .0 .accepted) .points-in)) (l .changed) (l .inv .2)
 
 ending-requires : tie.Need-ending-requires Inv-loop μ-loop
 ending-requires c κs =
-    let t = c .before .before .before .before .before .before .turn in
+    let t = c .before .before .before .before .before .before .make-round in
     let l = c .before .before .before .before .before .before .before .before .before .before .before .loop in
     let w = c .before .before .before .before .before .before .before .before .before .before .before .before .before .before .before .width in
     let s = c .before .before .before .before .before .before .before .before .before .before .before .before .before .before .before .before .before .before .before in
-    alarm-fits (planOf (now (s .args .plan))) (accepted-well-formed _ (s .pre .0 .accepted)) (w .result) _ _ (w .ensures .0) (t .ensures .0 .second-length ∙ l .inv .1 .second-length) (s .pre .0 .long-second)
+    alarm-fits (planOf (now (s .args .plan))) (accepted-well-formed _ (s .pre .0 .accepted)) (w .result) _ _ (w .ensures .0) (t .ensures .second-length ∙ l .inv .1 .second-length) (s .pre .0 .long-second)
 
 same-length : tie.Need-same-length Inv-loop μ-loop
-same-length c = c .before .before .before .before .before .before .before .turn .ensures .0 .first-length ∙ c .before .before .before .before .before .before .before .before .before .before .before .before .loop .inv .1 .first-length
+same-length c = c .before .before .before .before .before .before .before .make-round .ensures .first-length ∙ c .before .before .before .before .before .before .before .before .before .before .before .before .loop .inv .1 .first-length
 
 same-length-2 : tie.Need-same-length-2 Inv-loop μ-loop
-same-length-2 c = c .before .before .before .before .before .before .before .turn .ensures .0 .second-length ∙ c .before .before .before .before .before .before .before .before .before .before .before .before .loop .inv .1 .second-length
+same-length-2 c = c .before .before .before .before .before .before .before .make-round .ensures .second-length ∙ c .before .before .before .before .before .before .before .before .before .before .before .before .loop .inv .1 .second-length
 
 returns : tie.Need-returns Inv-loop μ-loop
 returns c =
     let e = c .ending in
-    let t = c .before .before .before .before .before .before .before .turn in
+    let t = c .before .before .before .before .before .before .before .make-round in
     let l = c .before .before .before .before .before .before .before .before .before .before .before .before .loop in
     let w = c .before .before .before .before .before .before .before .before .before .before .before .before .before .before .before .before .width in
     let s = c .before .before .before .before .before .before .before .before .before .before .before .before .before .before .before .before .before .before .before .before in
-    ran-stopped (planOf (now (s .args .plan))) (accepted-well-formed _ (s .pre .0 .accepted)) (now (s .args .first)) (s .pre .0 .long-first) (now (s .args .second)) (l .made) (l .first) (l .second) (l .inv .1) _ _ (t .result .stops) (t .ensures .0) (s .args .limit) (w .result) _ (omega (arith, c .before .before .before .before .before .before .before .before .before .before .before .loop-test .taken)) (c .before .before .if1 .taken) (w .ensures .0) (e .ensures)
+    ran-stopped (planOf (now (s .args .plan))) (accepted-well-formed _ (s .pre .0 .accepted)) (now (s .args .first)) (s .pre .0 .long-first) (now (s .args .second)) (l .made) (l .first) (l .second) (l .inv .1) _ _ (t .result .stops) (t .result .changed) (t .ensures) (s .args .limit) (w .result) _ (omega (arith, c .before .before .before .before .before .before .before .before .before .before .before .loop-test .taken)) (c .before .before .if1 .taken) (w .ensures .0) (e .ensures)
 
 loop-less : tie.Need-loop-less Inv-loop μ-loop
 loop-less c = search needs
 
 loop-again : tie.Need-loop-again Inv-loop μ-loop
 loop-again c =
-    let t = c .before .before .before .before .before .turn in
+    let t = c .before .before .before .before .before .make-round in
     let l = c .before .before .before .before .before .before .before .before .before .before .loop in
     let s = c .before .before .before .before .before .before .before .before .before .before .before .before .before .before .before .before .before .before in
     let P = planOf (now (s .args .plan)) in
     let wf = accepted-well-formed _ (s .pre .0 .accepted) in (
       omega arith,
-      held-more P wf (now (s .args .first)) (s .pre .0 .long-first) (now (s .args .second)) (l .made) (l .first) (l .second) (l .inv .1) _ _ (t .result .stops) (t .ensures .0) (c .if1 .left),
-      settled-again P wf (now (s .args .first)) (s .pre .0 .long-first) (now (s .args .second)) (l .made) (l .first) (l .second) (l .inv .1) (t .result .changed) (t .ensures .1),
+      held-more P wf (now (s .args .first)) (s .pre .0 .long-first) (now (s .args .second)) (l .made) (l .first) (l .second) (l .inv .1) _ _ (t .result .stops) (t .result .changed) (t .ensures) (c .if1 .left),
+      unaffected-more P wf (now (s .args .first)) (s .pre .0 .long-first) (now (s .args .second)) (l .made) (l .first) (l .second) (l .inv .1) (t .result .changed) (round-unaffected P wf (accepted-bounded _ (s .pre .0 .accepted) .points-in) (l .first) (l .second) _ _ _ (t .result .changed) (omega (arith, l .inv .1 .first-length, s .pre .0 .long-first)) (omega (arith, l .inv .1 .second-length, s .pre .0 .long-second)) (t .ensures)),
     )
 
 same-length-3 : tie.Need-same-length-3 Inv-loop μ-loop
@@ -121,8 +110,8 @@ rounds-to-spec =
     find-sources-requires
     loop-holds
     add-made
-    slice-aggregate-turn
-    turn-requires
+    slice-aggregate-make-round
+    make-round-requires
     ending-requires
     same-length
     same-length-2

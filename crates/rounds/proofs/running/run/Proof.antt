@@ -1,10 +1,10 @@
--- The copy makes the tables level, and the loop goes on from there.
+-- The copy gives both tables the same cells, and the loop goes on from there.
 use mathlib.Core.Path.{refl}
 use denote.Ref.{now}
 use borrow.Author.Needs.{needs}
 use Rattle.plan.specs.Layout.{planOf}
 use Rattle.plan.proofs.Ranges.{sizes-few}
-use Rattle.rounds.proofs.Turns.{ready-on, copied-level, copied-ran}
+use Rattle.rounds.proofs.RoundsMade.{ready-on, copied-same, copied-ran}
 use Rattle.rounds.proofs.running.run.Statement.{statement}
 use Rattle.rounds.proofs.running.run.Tie as tie
 
@@ -19,7 +19,7 @@ rounds-to-requires c κs =
     let y = c .before .before .before .before .copy-cells in
     let e = c .before .before .before .before .before .before .before .cells in
     let s = c .before .before .before .before .before .before .before .before .before .before .before in
-    (ready-on _ _ _ _ _ _ _ (s .pre .0) refl (y .ensures .1), s .pre .1, copied-level (planOf (now (s .args .plan))) (now (s .args .first)) _ (now (s .args .second)) (e .result) (s .pre .0 .long-first) (e .ensures) (y .ensures .0))
+    (ready-on _ _ _ _ _ _ _ (s .pre .0) refl (y .ensures .1), (s .pre .1, copied-same (planOf (now (s .args .plan))) (now (s .args .first)) _ (now (s .args .second)) (e .result) (s .pre .0 .long-first) (e .ensures) (y .ensures .0)))
 
 same-length : tie.Need-same-length
 same-length c = search needs

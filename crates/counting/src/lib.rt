@@ -1,4 +1,0 @@
-// How many lines a listing has.
-mod raised;
-
-pub use raised::count_lines;

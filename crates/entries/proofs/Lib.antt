@@ -1,3 +1,0 @@
-mod EntryLaws
-pub mod NumberLaws
-mod RaisedLaws

@@ -1,0 +1,24 @@
+-- All that the C calls promise (14): what the call behind each promises, its answer as a code, and its numbers.
+use mathlib.Core.Path.{_≡_}
+use mathlib.Core.List.{List}
+use Prim.Native.Nat.{ℕ}
+use Rattle.plan.specs.Moments.{Moments}
+use Rattle.rounds.specs.Outcomes.{Outcome}
+use Rattle.rounds.specs.AfterCheck.{AfterCheck}
+use Rattle.listing.specs.AfterList.{AfterList}
+use Rattle.interface.specs.Codes.{codeOf, countInto, numbersInto}
+
+-- sulgrach_check answered with this code
+pub record AfterCheckCall (plan : List ℕ) (limit : ℕ) (first second rounds : Moments) (code : ℕ) : Type 0 where
+  pub outcome : Outcome
+  pub check : AfterCheck plan limit first second outcome
+  pub code-is : code ≡ codeOf outcome
+  pub rounds-are : rounds .exit ≡ countInto outcome (rounds .entry)
+
+-- sulgrach_list answered with this code
+pub record AfterListCall (plan : List ℕ) (limit : ℕ) (first second index out numbers : Moments) (code : ℕ) : Type 0 where
+  pub outcome : Outcome
+  pub bytes : ℕ
+  pub list : AfterList plan limit first second index out outcome bytes
+  pub code-is : code ≡ codeOf outcome
+  pub numbers-are : numbers .exit ≡ numbersInto outcome bytes (numbers .entry)

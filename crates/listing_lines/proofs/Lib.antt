@@ -1,0 +1,5 @@
+pub mod IndexLaws
+pub mod IndexNumbers
+pub mod Ending
+pub mod LineCounts
+mod ListingC2

@@ -1,0 +1,5 @@
+pub mod BrokenPlans
+pub mod Entry
+pub mod Progress
+pub mod Entries
+pub mod RoundLines

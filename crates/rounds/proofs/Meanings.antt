@@ -1,0 +1,122 @@
+-- What the rounds from zeros answer and leave means what 15 says, of any well-formed plan and of the bytes of any accepted plan; and the limit that serves them all.
+use mathlib.Core.Path.{_≡_, refl, sym, subst, _∙_}
+use mathlib.Core.Bool.{Bool, true, false}
+use mathlib.Core.Logic.{_⊎_, inl, inr}
+use mathlib.Core.List.{List, _++_}
+use Prim.Native.Nat.{ℕ, zero, suc, _+_, _*_, _≤_, _<_}
+use native.Mathlib.Nat.{mul-le-mul}
+use native.Mathlib.Omega.{arith}
+use lib.ListN.{length, List·getD-append}
+use Rattle.plan.specs.Plan.{Plan, cells}
+use Rattle.plan.specs.Layout.{planOf}
+use Rattle.plan.specs.Refusal.{Accepted}
+use Rattle.plan.proofs.Ranges.{WellFormed, accepted-well-formed, accepted-bounded}
+use Rattle.rules.proofs.Next.{IsNext, next-is}
+use Rattle.rounds_tables.proofs.Comparing.{same-eq}
+use Rattle.rounds.specs.Rounds.{tableFrom, zeros, firstAlarmWaits, stopsAt}
+use Rattle.rounds.specs.Outcomes.{Outcome, kept, broken, spent, refused, runOutcome, runTable}
+use Rattle.rounds.specs.Meaning.{IsSpent, enoughRounds, servingLimit, Meaning}
+use Rattle.rounds.proofs.Stopping.{Running, running-less, tests-fail, one-holds, Stops, stops-or-runs, ends-broken, ends-kept, ends-spent}
+use Rattle.rounds.proofs.Sums.{sum, sum-lt, sum-bound}
+use Rattle.rounds.proofs.Verdict.{Inv, inv-table, self-wait, no-self-wait, holds-longest}
+
+module _ (P : Plan) (wf : WellFormed P) where
+  -- table(r) of the check
+  abbrev table : ℕ → List ℕ
+  table r = tableFrom P (zeros P) r
+
+  -- each round that does not stop raises the sum of the cells
+  running-sum : (r : ℕ) → Running P (zeros P) r → r ≤ sum (table r)
+  running-sum zero g = omega arith
+  running-sum (suc r) g =
+      let before = running-less P (zeros P) r (suc r) (omega arith) g in
+      let v = inv-table P wf r before in
+      let n = next-is P wf (table r) (v .sized) in
+      omega (arith, running-sum r before, sum-lt (table r) (table (suc r)) (sym (n .as-long)) (λ c k. n .no-lower c (rw (← (v .sized)) k)) (tests-fail P (zeros P) r (g .goes r (omega arith)) .1))
+
+  -- so that one of the first cells * (horizon + M) + 1 rounds stops
+  pub running-bound : (r : ℕ) → Running P (zeros P) r → r ≤ cells P * (P .horizon + P .largest)
+  running-bound r g =
+      let v = inv-table P wf r g in
+      let b : sum (table r) ≤ cells P * (P .horizon + P .largest) = rw (v .sized) at (sum-bound (table r) (P .horizon + P .largest) (λ c k. v .high c (rw (← (v .sized)) k))) in
+      omega (arith, running-sum r g)
+
+  module _ (limit : ℕ) where
+    abbrev RunMeans : Type 0
+    RunMeans = Meaning P limit (runOutcome P (zeros P) limit) (runTable P (zeros P) limit) (runTable P (zeros P) limit)
+
+    -- round r + 1 is the first that stops
+    stops-mean : (r : ℕ) → r < limit → Running P (zeros P) r → stopsAt P (zeros P) (suc r) ≡ true → RunMeans
+    stops-mean r h g s = go (firstAlarmWaits P B) refl
+      where
+        A : List ℕ
+        A = table r
+
+        B : List ℕ
+        B = table (suc r)
+
+        v : Inv P wf A
+        v = inv-table P wf r g
+
+        n : IsNext P A B
+        n = next-is P wf A (v .sized)
+
+        go : (b : Bool) → firstAlarmWaits P B ≡ b → RunMeans
+        go true e =
+            let w = self-wait P wf A B v n e in
+            let d = ends-broken P (zeros P) limit r h g e in
+            rw (d .outcome-is, d .table-is) (record { broken-then = λ b. w; kept-then = λ k. absurd k; first-longest = λ k. absurd k; second-longest = λ k. absurd k; broken-if = λ u h x. tt; kept-if = λ u h no. no w })
+        go false e =
+            let q = one-holds P (zeros P) r s e in
+            let b : B ≡ A = sym (same-eq A B q) in
+            let m : IsNext P A A = subst (IsNext P A) b n in
+            let d = ends-kept P (zeros P) limit r h g e q in
+            rw (d .outcome-is, d .table-is ∙ b) (record { broken-then = λ x. absurd x; kept-then = λ k. no-self-wait P wf A v m; first-longest = λ k. holds-longest P wf A v m; second-longest = λ k. holds-longest P wf A v m; broken-if = λ u h x. absurd (no-self-wait P wf A v m x); kept-if = λ u h no. tt })
+
+    -- no round up to the limit stops, so that it is not enough
+    limit-means : Running P (zeros P) limit → RunMeans
+    limit-means g =
+        let few : enoughRounds P ≤ limit → ⊥ = λ h. omega (arith, running-bound limit g) in
+        let d = ends-spent P (zeros P) limit g in
+        rw (d .outcome-is, d .table-is) (record { broken-then = λ x. absurd x; kept-then = λ x. absurd x; first-longest = λ x. absurd x; second-longest = λ x. absurd x; broken-if = λ u h x. absurd (few h); kept-if = λ u h no. absurd (few h) })
+
+    pub run-means : RunMeans
+    run-means = go (stops-or-runs P (zeros P) limit)
+      where
+        go : ((r : ℕ) × Stops P (zeros P) limit r) ⊎ Running P (zeros P) limit → RunMeans
+        go (inl (r, s)) = stops-mean (s .before) (s .within) (s .runs) (s .here)
+        go (inr g) = limit-means g
+
+-- a refusal says nothing of the plan
+pub refused-means : (P : Plan) (limit k : ℕ) (F G : List ℕ) → Meaning P limit (refused k) F G
+refused-means P limit k F G = record { broken-then = λ x. absurd x; kept-then = λ x. absurd x; first-longest = λ x. absurd x; second-longest = λ x. absurd x; broken-if = λ u. absurd (u tt); kept-if = λ u. absurd (u tt) }
+
+-- the meaning is that of the first cells alone
+pub means-on : (P : Plan) (limit : ℕ) (o : Outcome) (A F G : List ℕ) → length A ≡ cells P → Meaning P limit o A A → Meaning P limit o (A ++ F) (A ++ G)
+means-on P limit o A F G e d = record {
+  broken-then = d .broken-then;
+  kept-then = d .kept-then;
+  first-longest = λ k c h. rw (List·getD-append A F 0 c (omega arith)) (d .first-longest k c h);
+  second-longest = λ k c h. rw (List·getD-append A G 0 c (omega arith)) (d .second-longest k c h);
+  broken-if = d .broken-if;
+  kept-if = d .kept-if;
+}
+
+-- ---- over the bytes of a plan
+module _ (bs : List ℕ) (accepted : Accepted bs) where
+  pub run-means-bytes : (limit : ℕ) → Meaning (planOf bs) limit (runOutcome (planOf bs) (zeros (planOf bs)) limit) (runTable (planOf bs) (zeros (planOf bs)) limit) (runTable (planOf bs) (zeros (planOf bs)) limit)
+  run-means-bytes limit = run-means (planOf bs) (accepted-well-formed bs accepted) limit
+
+  -- the limit that serves every accepted plan
+  pub serves : enoughRounds (planOf bs) ≤ servingLimit
+  serves =
+      let b = accepted-bounded bs accepted in
+      let h : planOf bs .horizon + planOf bs .largest + 1 ≤ 118801 = omega (arith, b .horizon-in, b .largest-in) in
+      omega (arith, mul-le-mul (b .cells-in) h)
+
+  -- enough rounds leave no plan undecided
+  pub decided : (limit : ℕ) (o : Outcome) (F G : List ℕ) → Meaning (planOf bs) limit o F G → servingLimit ≤ limit → IsSpent o → ⊥
+  decided limit (spent n) F G d h s = let e : enoughRounds (planOf bs) ≤ limit = omega (arith, serves) in d .kept-if (λ x. x) e (λ w. d .broken-if (λ x. x) e w)
+  decided limit (kept r) F G d h s = s
+  decided limit (broken r) F G d h s = s
+  decided limit (refused n) F G d h s = s

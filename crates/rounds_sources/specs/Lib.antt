@@ -1,0 +1,2 @@
+pub mod PointSets
+pub mod Sources

@@ -1,0 +1,2 @@
+pub mod ApplyLaws
+pub mod SameLines

@@ -1,0 +1,15 @@
+// A rule applied to lines: what it gives.
+mod application;
+mod propagation;
+mod removal;
+mod sets;
+
+pub use application::apply;
+pub use application::gives_line;
+use rules::Line;
+
+// What applying a rule gives.
+pub enum Applied {
+    Gives(Line),
+    Nothing,
+}

@@ -1,0 +1,298 @@
+// Filling one point's part of the second table, row by row.
+use crate::cells::clear_in;
+use crate::cells::copy_cells;
+use crate::cells::propagate_in;
+use crate::cells::remove_in;
+use crate::rows::digit_mask;
+use crate::rows::edge_row;
+use crate::rows::label_mask;
+use crate::rows::letter_row;
+use crate::rows::literal_row;
+use crate::rows::lower_row;
+use crate::rows::upper_row;
+use crate::shapes::Propagator;
+use plan::edge_from;
+use plan::edges;
+use plan::link_activation;
+use plan::link_finish;
+use plan::links;
+use plan::observer;
+use plan::points;
+use plan::propositions;
+use plan::width as point_width;
+ghost use mathlib.Core.Path.{_≡_};
+ghost use Prim.Native.Nat.{_<_};
+ghost use lib.Dec.{eqb};
+ghost use Rattle.plan.specs.Moments.{before, after, SameLength};
+ghost use Rattle.plan.specs.Layout.{planOf};
+ghost use Rattle.rules_fill.specs.Steps as steps;
+ghost use Rattle.rules_fill.specs.Shapes as shapes;
+ghost use Rattle.rules_fill.specs.Parts.{nextPart};
+ghost use Rattle.rules_fill.specs.Lent.{FillLent};
+ghost use Rattle.rules_fill.specs.Filling.{RowsLent, RemovalLent};
+
+// Rule 1 of edge i, if it starts at x.
+fn edge_in(
+    plan: &[u8],
+    marks: &[u8; 256],
+    first: &[u32],
+    part: &mut [u32],
+    width: usize,
+    mask: usize,
+    x: usize,
+    i: usize,
+)
+    requires { ⌜ RowsLent (now plan) (now marks) (now first) (now part) width mask × (i < planOf (now plan) .edges) ⌝ }
+    ensures { λ _. ⌜ after part ≡ shapes.fillEdge (planOf (before plan)) (before first) x i (before part) ⌝ }
+    ensures { λ _. ⌜ SameLength part ⌝ }
+{
+    if edge_from(plan, i) != x {
+        return;
+    }
+    let by = edge_row(plan, i);
+    propagate_in(marks, first, part, width, mask, by);
+}
+
+fn fill_edges(
+    plan: &[u8],
+    marks: &[u8; 256],
+    first: &[u32],
+    part: &mut [u32],
+    width: usize,
+    mask: usize,
+    x: usize,
+)
+    requires { ⌜ RowsLent (now plan) (now marks) (now first) (now part) width mask ⌝ }
+    ensures { λ _. ⌜ after part ≡ shapes.fillEdges (planOf (before plan)) (before first) x (before part) ⌝ }
+    ensures { λ _. ⌜ SameLength part ⌝ }
+{
+    let n = edges(plan);
+    for i in 0..n {
+        edge_in(plan, marks, first, part, width, mask, x, i);
+    }
+}
+
+// Rule 1 of the horizon edge to y.
+fn horizon_in(
+    plan: &[u8],
+    marks: &[u8; 256],
+    horizon: u64,
+    first: &[u32],
+    part: &mut [u32],
+    width: usize,
+    mask: usize,
+    y: usize,
+)
+    requires { ⌜ RowsLent (now plan) (now marks) (now first) (now part) width mask × (y < planOf (now plan) .points) ⌝ }
+    requires { ⌜ horizon ≡ planOf (now plan) .horizon ⌝ }
+    ensures { λ _. ⌜ after part ≡ shapes.horizonIn (planOf (before plan)) (before first) y (before part) ⌝ }
+    ensures { λ _. ⌜ SameLength part ⌝ }
+{
+    let by = Propagator {
+        from: y,
+        avoid: 0,
+        add: 0,
+        up: horizon,
+        down: 0,
+    };
+    propagate_in(marks, first, part, width, mask, by);
+}
+
+// Rule 1 of every horizon edge: they start at point 0.
+fn fill_horizon(
+    plan: &[u8],
+    marks: &[u8; 256],
+    horizon: u64,
+    first: &[u32],
+    part: &mut [u32],
+    width: usize,
+    mask: usize,
+)
+    requires { ⌜ RowsLent (now plan) (now marks) (now first) (now part) width mask × (horizon ≡ planOf (now plan) .horizon) ⌝ }
+    ensures { λ _. ⌜ after part ≡ shapes.fillHorizon (planOf (before plan)) (before first) (before part) ⌝ }
+    ensures { λ _. ⌜ SameLength part ⌝ }
+{
+    let n = points(plan);
+    for y in 1..n {
+        horizon_in(plan, marks, horizon, first, part, width, mask, y);
+    }
+}
+
+fn horizon_at(
+    plan: &[u8],
+    marks: &[u8; 256],
+    horizon: u64,
+    first: &[u32],
+    part: &mut [u32],
+    width: usize,
+    mask: usize,
+    x: usize,
+)
+    requires { ⌜ RowsLent (now plan) (now marks) (now first) (now part) width mask × (horizon ≡ planOf (now plan) .horizon) ⌝ }
+    ensures { λ _. ⌜ after part ≡ steps.when (eqb x 0) (shapes.fillHorizon (planOf (before plan)) (before first)) (before part) ⌝ }
+    ensures { λ _. ⌜ SameLength part ⌝ }
+{
+    if x != 0 {
+        return;
+    }
+    fill_horizon(plan, marks, horizon, first, part, width, mask);
+}
+
+// Rule 2 of link i, if its activation is x.
+fn lower_in(
+    plan: &[u8],
+    marks: &[u8; 256],
+    first: &[u32],
+    part: &mut [u32],
+    width: usize,
+    mask: usize,
+    x: usize,
+    i: usize,
+)
+    requires { ⌜ RowsLent (now plan) (now marks) (now first) (now part) width mask × (i < planOf (now plan) .links) ⌝ }
+    ensures { λ _. ⌜ after part ≡ shapes.fillLower (planOf (before plan)) (before first) x i (before part) ⌝ }
+    ensures { λ _. ⌜ SameLength part ⌝ }
+{
+    if link_activation(plan, i) != x {
+        return;
+    }
+    let by = lower_row(plan, i);
+    propagate_in(marks, first, part, width, mask, by);
+}
+
+// Rule 3 of link i, if its end is x.
+fn upper_in(
+    plan: &[u8],
+    marks: &[u8; 256],
+    first: &[u32],
+    part: &mut [u32],
+    width: usize,
+    mask: usize,
+    x: usize,
+    i: usize,
+)
+    requires { ⌜ RowsLent (now plan) (now marks) (now first) (now part) width mask × (i < planOf (now plan) .links) ⌝ }
+    ensures { λ _. ⌜ after part ≡ shapes.fillUpper (planOf (before plan)) (before first) x i (before part) ⌝ }
+    ensures { λ _. ⌜ SameLength part ⌝ }
+{
+    if link_finish(plan, i) != x {
+        return;
+    }
+    let by = upper_row(plan, i);
+    propagate_in(marks, first, part, width, mask, by);
+}
+
+// Rule 4 of link i.
+fn letter_in(plan: &[u8], first: &[u32], part: &mut [u32], width: usize, x: usize, i: usize)
+    requires { ⌜ RemovalLent (now plan) (now first) (now part) width x × (i < planOf (now plan) .links) ⌝ }
+    ensures { λ _. ⌜ after part ≡ shapes.letterIn (planOf (before plan)) (before first) x i (before part) ⌝ }
+    ensures { λ _. ⌜ SameLength part ⌝ }
+{
+    let by = letter_row(plan, i);
+    remove_in(first, part, width, by, x);
+}
+
+// Rules 2 to 4 of link i.
+fn fill_link(
+    plan: &[u8],
+    marks: &[u8; 256],
+    first: &[u32],
+    part: &mut [u32],
+    width: usize,
+    mask: usize,
+    x: usize,
+    i: usize,
+)
+    requires { ⌜ RowsLent (now plan) (now marks) (now first) (now part) width mask × (i < planOf (now plan) .links) × (x < planOf (now plan) .points) ⌝ }
+    ensures { λ _. ⌜ after part ≡ shapes.fillLink (planOf (before plan)) (before first) x i (before part) ⌝ }
+    ensures { λ _. ⌜ SameLength part ⌝ }
+{
+    lower_in(plan, marks, first, part, width, mask, x, i);
+    upper_in(plan, marks, first, part, width, mask, x, i);
+    letter_in(plan, first, part, width, x, i);
+}
+
+fn fill_links(
+    plan: &[u8],
+    marks: &[u8; 256],
+    first: &[u32],
+    part: &mut [u32],
+    width: usize,
+    mask: usize,
+    x: usize,
+)
+    requires { ⌜ RowsLent (now plan) (now marks) (now first) (now part) width mask × (x < planOf (now plan) .points) ⌝ }
+    ensures { λ _. ⌜ after part ≡ shapes.fillLinks (planOf (before plan)) (before first) x (before part) ⌝ }
+    ensures { λ _. ⌜ SameLength part ⌝ }
+{
+    let n = links(plan);
+    for i in 0..n {
+        fill_link(plan, marks, first, part, width, mask, x, i);
+    }
+}
+
+// Rule 5 of proposition j, if its observing point is x.
+fn own_literal_in(plan: &[u8], first: &[u32], part: &mut [u32], width: usize, x: usize, j: usize)
+    requires { ⌜ RemovalLent (now plan) (now first) (now part) width x × (j < planOf (now plan) .propositions) ⌝ }
+    ensures { λ _. ⌜ after part ≡ shapes.fillOwnLiteral (planOf (before plan)) (before first) x j (before part) ⌝ }
+    ensures { λ _. ⌜ SameLength part ⌝ }
+{
+    if observer(plan, j) != x {
+        return;
+    }
+    clear_in(first, part, width, digit_mask(j), x);
+}
+
+// Rule 6 of proposition j.
+fn literal_in(plan: &[u8], first: &[u32], part: &mut [u32], width: usize, x: usize, j: usize)
+    requires { ⌜ RemovalLent (now plan) (now first) (now part) width x × (j < planOf (now plan) .propositions) ⌝ }
+    ensures { λ _. ⌜ after part ≡ shapes.literalIn (planOf (before plan)) (before first) x j (before part) ⌝ }
+    ensures { λ _. ⌜ SameLength part ⌝ }
+{
+    let by = literal_row(plan, j);
+    remove_in(first, part, width, by, x);
+}
+
+// Rules 5 and 6 of proposition j.
+fn fill_proposition(plan: &[u8], first: &[u32], part: &mut [u32], width: usize, x: usize, j: usize)
+    requires { ⌜ RemovalLent (now plan) (now first) (now part) width x × (j < planOf (now plan) .propositions) ⌝ }
+    ensures { λ _. ⌜ after part ≡ shapes.fillProposition (planOf (before plan)) (before first) x j (before part) ⌝ }
+    ensures { λ _. ⌜ SameLength part ⌝ }
+{
+    own_literal_in(plan, first, part, width, x, j);
+    literal_in(plan, first, part, width, x, j);
+}
+
+fn fill_propositions(plan: &[u8], first: &[u32], part: &mut [u32], width: usize, x: usize)
+    requires { ⌜ RemovalLent (now plan) (now first) (now part) width x ⌝ }
+    ensures { λ _. ⌜ after part ≡ shapes.fillPropositions (planOf (before plan)) (before first) x (before part) ⌝ }
+    ensures { λ _. ⌜ SameLength part ⌝ }
+{
+    let n = propositions(plan);
+    for j in 0..n {
+        fill_proposition(plan, first, part, width, x, j);
+    }
+}
+
+// The part of the next table that belongs to point x, and which starts at part's first cell; what lies past it is untouched.
+pub fn fill_point(
+    plan: &[u8],
+    marks: &[u8; 256],
+    horizon: u64,
+    first: &[u32],
+    part: &mut [u32],
+    x: usize,
+)
+    requires { ⌜ FillLent (now plan) (now marks) horizon (now first) (now part) x ⌝ }
+    ensures { λ _. ⌜ after part ≡ nextPart (planOf (before plan)) x (before first) (before part) ⌝ }
+    ensures { λ _. ⌜ SameLength part ⌝ }
+{
+    let width = point_width(plan);
+    let mask = label_mask(plan);
+    let start = x * width;
+    copy_cells(&first[start..], part, width);
+    fill_edges(plan, marks, first, part, width, mask, x);
+    horizon_at(plan, marks, horizon, first, part, width, mask, x);
+    fill_links(plan, marks, first, part, width, mask, x);
+    fill_propositions(plan, first, part, width, x);
+}

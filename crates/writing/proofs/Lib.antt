@@ -1,2 +1,0 @@
-mod Numbering
-pub mod Putting
