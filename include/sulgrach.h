@@ -58,7 +58,7 @@ extern "C" {
 /* No listing is longer, in bytes. */
 #define SULGRACH_LISTING 57346
 
-/* Each call takes less stack than this, in bytes. Measured, not proved: a call itself took up to 1,760, and the first of
+/* Each call takes less stack than this, in bytes. Measured, not proved: a call itself took up to 1,920, and the first of
  * a program up to 4,552 where the dynamic linker looks for memset only then (-z lazy). */
 #define SULGRACH_STACK 8192
 

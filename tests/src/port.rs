@@ -39,6 +39,9 @@ mod plan {
     pub use self::fields::width;
     pub use self::label::is_plain;
     pub use self::marks::plain_marks;
+    pub use self::numbers::cell_at;
+    pub use self::numbers::lesser;
+    pub use self::numbers::widen_cell;
 
     // M and the horizon.
     mod bounds {
@@ -47,14 +50,7 @@ mod plan {
         use super::fields::link_most;
         use super::fields::links;
         use super::fields::points;
-
-        fn greater(a: u64, b: u64) -> u64 {
-            if a < b {
-                b
-            } else {
-                a
-            }
-        }
+        use super::numbers::greater;
 
         fn greatest_most(plan: &[u8]) -> u64 {
             let mut most = 0;
@@ -86,13 +82,11 @@ mod plan {
 
     // Bytes and 16-bit words of a slice of any length: past the end they are 0, and nothing is read there.
     mod bytes {
-        fn widened(b: u8) -> usize {
-            b as usize
-        }
+        use super::numbers::widen_byte;
 
         pub fn byte_at(bytes: &[u8], at: usize) -> usize {
             if at < bytes.len() {
-                return widened(bytes[at]);
+                return widen_byte(bytes[at]);
             }
             0
         }
@@ -200,13 +194,18 @@ mod plan {
             65536 - weight
         }
 
-        pub fn edge_label(plan: &[u8], i: usize) -> usize {
-            byte_at(plan, data_at(plan, edge_row(plan, i)) + 2)
+        // One of the four bytes of an edge.
+        fn edge_byte(plan: &[u8], i: usize, k: usize) -> usize {
+            byte_at(plan, data_at(plan, edge_row(plan, i)) + k)
         }
 
-        // The last byte of an edge.
+        pub fn edge_label(plan: &[u8], i: usize) -> usize {
+            edge_byte(plan, i, 2)
+        }
+
+        // The spare byte of an edge.
         pub fn edge_spare(plan: &[u8], i: usize) -> usize {
-            byte_at(plan, data_at(plan, edge_row(plan, i)) + 3)
+            edge_byte(plan, i, 3)
         }
     }
 
@@ -237,44 +236,20 @@ mod plan {
             PLAIN
         }
     }
-}
 
-// Lines and the six rules.
-mod rules {
-    pub use self::shapes::cleared;
-    pub use self::shapes::propagated;
-    pub use self::shapes::removed;
-    pub use self::shapes::touches;
-    pub use self::shapes::Propagator;
-    pub use self::shapes::Remover;
-
-    // What the rules give at one place, or two, in the three shapes that serve filling and finding.
-    mod shapes {
-        use super::super::plan::is_plain;
-
-        // Rules 1 to 3, by their row: every line of one point goes to another point, with bits added to its place, unless it has a bit to avoid.
-        // The weight of the row is up less down.
-        #[derive(Clone, Copy)]
-        pub struct Propagator {
-            pub from: usize,
-            pub avoid: usize,
-            pub add: usize,
-            pub up: u64,
-            pub down: u64,
+    // Numbers of other widths, and the lesser and the greater of two.
+    mod numbers {
+        pub fn widen_byte(x: u8) -> usize {
+            x as usize
         }
 
-        // Rules 4 and 6, by their row: the bits of the mask are removed with a line of the other point.
-        // The mask is a run of bits, and low the lowest of them.
-        #[derive(Clone, Copy)]
-        pub struct Remover {
-            pub other: usize,
-            pub mask: usize,
-            pub low: usize,
-            pub add: u64,
+        pub fn widen_cell(x: u32) -> u64 {
+            x as u64
         }
 
-        pub fn cleared(place: usize, mask: usize) -> usize {
-            place - (place & mask)
+        // The number that a table holds in a cell.
+        pub fn cell_at(table: &[u32], c: usize) -> u64 {
+            widen_cell(table[c])
         }
 
         pub fn lesser(a: u64, b: u64) -> u64 {
@@ -285,492 +260,18 @@ mod rules {
             }
         }
 
-        // The wait less the weight, or 0.
-        fn weighed(wait: u64, up: u64, down: u64) -> u64 {
-            if up < wait + down {
-                wait + down - up
+        pub fn greater(a: u64, b: u64) -> u64 {
+            if a < b {
+                b
             } else {
-                0
+                a
             }
-        }
-
-        fn is_line(place: usize, wait: u64) -> bool {
-            0 < wait || place == 0
-        }
-
-        // Whether the place has a bit of the mask.
-        pub fn touches(mask: usize, place: usize) -> bool {
-            place & mask != 0
-        }
-
-        // Whether the label of the place is plain.
-        fn has_plain_label(marks: &[u8; 256], mask: usize, place: usize) -> bool {
-            is_plain(marks, place & mask)
-        }
-
-        pub fn propagated(marks: &[u8; 256], by: Propagator, mask: usize, place: usize, wait: u64) -> u64 {
-            if !is_line(place, wait) {
-                return 0;
-            }
-            if touches(by.avoid, place) {
-                return 0;
-            }
-            if !has_plain_label(marks, mask, place) {
-                return 0;
-            }
-            if !has_plain_label(marks, mask, place | by.add) {
-                return 0;
-            }
-            weighed(wait, by.up, by.down)
-        }
-
-        // The other line's place has no bit of the mask: callers pass over places that have one.
-        pub fn removed(by: Remover, wait: u64, place: usize, other: u64) -> u64 {
-            if !is_line(place, other) {
-                return 0;
-            }
-            lesser(wait, other + by.add)
-        }
-    }
-}
-
-// The loops that raise the cells of one point's part, one for each shape of rule.
-mod raising {
-    pub use self::cells::clear_in;
-    pub use self::cells::copy_part;
-    pub use self::cells::propagate_in;
-    pub use self::cells::remove_in;
-
-    // The loops over a point's cells, one for each shape of rule.
-    mod cells {
-        use super::super::rules::cleared;
-        use super::super::rules::propagated;
-        use super::super::rules::removed;
-        use super::super::rules::touches;
-        use super::super::rules::Propagator;
-        use super::super::rules::Remover;
-
-        fn widened(wait: u32) -> u64 {
-            wait as u64
-        }
-
-        fn raise(part: &mut [u32], place: usize, wait: u64) {
-            if widened(part[place]) < wait {
-                part[place] = wait as u32;
-            }
-        }
-
-        // The cells of a point as the table has them.
-        pub fn copy_part(first: &[u32], part: &mut [u32], base: usize, width: usize) {
-            for c in 0..width {
-                part[c] = first[base + c];
-            }
-        }
-
-        // Rules 1 to 3, from all cells of one point.
-        pub fn propagate_in(
-            marks: &[u8; 256],
-            first: &[u32],
-            part: &mut [u32],
-            width: usize,
-            mask: usize,
-            by: Propagator,
-        ) {
-            let base = by.from * width;
-            for c in 0..width {
-                let wait = propagated(marks, by, mask, c, widened(first[base + c]));
-                raise(part, c | by.add, wait);
-            }
-        }
-
-        // Rules 4 and 6, from one line (its place cleared) and the other point's cell at c, a place that has no bit of the mask.
-        fn remove_at(
-            first: &[u32],
-            part: &mut [u32],
-            base: usize,
-            by: Remover,
-            place: usize,
-            wait: u64,
-            c: usize,
-        ) {
-            let w = removed(by, wait, c, widened(first[base + c]));
-            raise(part, place | c, w);
-        }
-
-        // The same from the other point's cells from lo on and below hi.
-        fn remove_run(
-            first: &[u32],
-            part: &mut [u32],
-            base: usize,
-            by: Remover,
-            place: usize,
-            wait: u64,
-            lo: usize,
-            hi: usize,
-        ) {
-            for c in lo..hi {
-                remove_at(first, part, base, by, place, wait, c);
-            }
-        }
-
-        // Rules 4 and 6, from one line (its place cleared) and all cells of the other point.
-        // In each block only the first places have no bit of the mask: the others give nothing, and are passed over.
-        fn remove_one(first: &[u32], part: &mut [u32], width: usize, by: Remover, place: usize, wait: u64) {
-            let base = by.other * width;
-            let block = by.mask + by.low;
-            let mut start = 0;
-            while start < width {
-                remove_run(first, part, base, by, place, wait, start, start + by.low);
-                start += block;
-            }
-        }
-
-        // The same from any line: nothing where it waits 0 or has no bit of the mask.
-        fn remove_cell(first: &[u32], part: &mut [u32], width: usize, by: Remover, place: usize, wait: u64) {
-            if wait == 0 {
-                return;
-            }
-            if !touches(by.mask, place) {
-                return;
-            }
-            let rest = cleared(place, by.mask);
-            remove_one(first, part, width, by, rest, wait);
-        }
-
-        // Rules 4 and 6, from all cells of point x.
-        pub fn remove_in(first: &[u32], part: &mut [u32], width: usize, by: Remover, x: usize) {
-            let base = x * width;
-            for c in 0..width {
-                remove_cell(first, part, width, by, c, widened(first[base + c]));
-            }
-        }
-
-        fn clear_cell(part: &mut [u32], mask: usize, place: usize, wait: u64) {
-            if touches(mask, place) {
-                let rest = cleared(place, mask);
-                raise(part, rest, wait);
-            }
-        }
-
-        // Rule 5, at the observing point x.
-        pub fn clear_in(first: &[u32], part: &mut [u32], width: usize, mask: usize, x: usize) {
-            let base = x * width;
-            for c in 0..width {
-                clear_cell(part, mask, c, widened(first[base + c]));
-            }
-        }
-    }
-}
-
-// One point's part of the next table.
-mod filling {
-    pub use self::fill::fill_point;
-
-    // Filling one point's part of the second table, row by row.
-    mod fill {
-        use super::super::plan::edge_from;
-        use super::super::plan::edges;
-        use super::super::plan::link_activation;
-        use super::super::plan::link_finish;
-        use super::super::plan::links;
-        use super::super::plan::observer;
-        use super::super::plan::points;
-        use super::super::plan::propositions;
-        use super::super::plan::width as point_width;
-        use super::super::raising::clear_in;
-        use super::super::raising::copy_part;
-        use super::super::raising::propagate_in;
-        use super::super::raising::remove_in;
-        use super::super::rules::Propagator;
-        use super::rows::digit_mask;
-        use super::rows::edge_row;
-        use super::rows::label_mask;
-        use super::rows::letter_row;
-        use super::rows::literal_row;
-        use super::rows::lower_row;
-        use super::rows::upper_row;
-
-        // Rule 1 of edge i, if it starts at x.
-        fn edge_in(
-            plan: &[u8],
-            marks: &[u8; 256],
-            first: &[u32],
-            part: &mut [u32],
-            width: usize,
-            mask: usize,
-            x: usize,
-            i: usize,
-        ) {
-            if edge_from(plan, i) != x {
-                return;
-            }
-            let by = edge_row(plan, i);
-            propagate_in(marks, first, part, width, mask, by);
-        }
-
-        fn fill_edges(
-            plan: &[u8],
-            marks: &[u8; 256],
-            first: &[u32],
-            part: &mut [u32],
-            width: usize,
-            mask: usize,
-            x: usize,
-        ) {
-            let n = edges(plan);
-            for i in 0..n {
-                edge_in(plan, marks, first, part, width, mask, x, i);
-            }
-        }
-
-        // Rule 1 of the horizon edge to y.
-        fn horizon_in(
-            _plan: &[u8],
-            marks: &[u8; 256],
-            horizon: u64,
-            first: &[u32],
-            part: &mut [u32],
-            width: usize,
-            mask: usize,
-            y: usize,
-        ) {
-            let by = Propagator { from: y, avoid: 0, add: 0, up: horizon, down: 0 };
-            propagate_in(marks, first, part, width, mask, by);
-        }
-
-        // Rule 1 of every horizon edge: they start at point 0.
-        fn fill_horizon(
-            plan: &[u8],
-            marks: &[u8; 256],
-            horizon: u64,
-            first: &[u32],
-            part: &mut [u32],
-            width: usize,
-            mask: usize,
-        ) {
-            let n = points(plan);
-            for y in 1..n {
-                horizon_in(plan, marks, horizon, first, part, width, mask, y);
-            }
-        }
-
-        fn horizon_at(
-            plan: &[u8],
-            marks: &[u8; 256],
-            horizon: u64,
-            first: &[u32],
-            part: &mut [u32],
-            width: usize,
-            mask: usize,
-            x: usize,
-        ) {
-            if x != 0 {
-                return;
-            }
-            fill_horizon(plan, marks, horizon, first, part, width, mask);
-        }
-
-        // Rule 2 of link i, if its activation is x.
-        fn lower_in(
-            plan: &[u8],
-            marks: &[u8; 256],
-            first: &[u32],
-            part: &mut [u32],
-            width: usize,
-            mask: usize,
-            x: usize,
-            i: usize,
-        ) {
-            if link_activation(plan, i) != x {
-                return;
-            }
-            let by = lower_row(plan, i);
-            propagate_in(marks, first, part, width, mask, by);
-        }
-
-        // Rule 3 of link i, if its end is x.
-        fn upper_in(
-            plan: &[u8],
-            marks: &[u8; 256],
-            first: &[u32],
-            part: &mut [u32],
-            width: usize,
-            mask: usize,
-            x: usize,
-            i: usize,
-        ) {
-            if link_finish(plan, i) != x {
-                return;
-            }
-            let by = upper_row(plan, i);
-            propagate_in(marks, first, part, width, mask, by);
-        }
-
-        // Rule 4 of link i.
-        fn letter_in(plan: &[u8], first: &[u32], part: &mut [u32], width: usize, x: usize, i: usize) {
-            let by = letter_row(plan, i);
-            remove_in(first, part, width, by, x);
-        }
-
-        // Rules 2 to 4 of link i.
-        fn fill_link(
-            plan: &[u8],
-            marks: &[u8; 256],
-            first: &[u32],
-            part: &mut [u32],
-            width: usize,
-            mask: usize,
-            x: usize,
-            i: usize,
-        ) {
-            lower_in(plan, marks, first, part, width, mask, x, i);
-            upper_in(plan, marks, first, part, width, mask, x, i);
-            letter_in(plan, first, part, width, x, i);
-        }
-
-        fn fill_links(
-            plan: &[u8],
-            marks: &[u8; 256],
-            first: &[u32],
-            part: &mut [u32],
-            width: usize,
-            mask: usize,
-            x: usize,
-        ) {
-            let n = links(plan);
-            for i in 0..n {
-                fill_link(plan, marks, first, part, width, mask, x, i);
-            }
-        }
-
-        // Rule 5 of proposition j, if its observing point is x.
-        fn own_literal_in(plan: &[u8], first: &[u32], part: &mut [u32], width: usize, x: usize, j: usize) {
-            if observer(plan, j) != x {
-                return;
-            }
-            clear_in(first, part, width, digit_mask(j), x);
-        }
-
-        // Rule 6 of proposition j.
-        fn literal_in(plan: &[u8], first: &[u32], part: &mut [u32], width: usize, x: usize, j: usize) {
-            let by = literal_row(plan, j);
-            remove_in(first, part, width, by, x);
-        }
-
-        // Rules 5 and 6 of proposition j.
-        fn fill_proposition(plan: &[u8], first: &[u32], part: &mut [u32], width: usize, x: usize, j: usize) {
-            own_literal_in(plan, first, part, width, x, j);
-            literal_in(plan, first, part, width, x, j);
-        }
-
-        fn fill_propositions(plan: &[u8], first: &[u32], part: &mut [u32], width: usize, x: usize) {
-            let n = propositions(plan);
-            for j in 0..n {
-                fill_proposition(plan, first, part, width, x, j);
-            }
-        }
-
-        // The part of the next table that belongs to point x, and which starts at part's first cell; what lies past it is untouched.
-        pub fn fill_point(
-            plan: &[u8],
-            marks: &[u8; 256],
-            horizon: u64,
-            first: &[u32],
-            part: &mut [u32],
-            x: usize,
-        ) {
-            let width = point_width(plan);
-            let mask = label_mask(plan);
-            copy_part(first, part, x * width, width);
-            fill_edges(plan, marks, first, part, width, mask, x);
-            horizon_at(plan, marks, horizon, first, part, width, mask, x);
-            fill_links(plan, marks, first, part, width, mask, x);
-            fill_propositions(plan, first, part, width, x);
-        }
-    }
-
-    // The shapes of a plan's rows: what a row avoids, adds and removes, as bits of a place.
-    mod rows {
-        use super::super::plan::edge_down;
-        use super::super::plan::edge_label;
-        use super::super::plan::edge_to;
-        use super::super::plan::edge_up;
-        use super::super::plan::labels;
-        use super::super::plan::link_activation;
-        use super::super::plan::link_finish;
-        use super::super::plan::link_least;
-        use super::super::plan::link_most;
-        use super::super::plan::observer;
-        use super::super::plan::propositions;
-        use super::super::rules::Propagator;
-        use super::super::rules::Remover;
-
-        // The bits of a label.
-        pub fn label_mask(plan: &[u8]) -> usize {
-            labels(plan) - 1
-        }
-
-        pub fn link_bit(plan: &[u8], i: usize) -> usize {
-            1 << (2 * propositions(plan) + i)
-        }
-
-        pub fn digit_mask(j: usize) -> usize {
-            3 << (2 * j)
-        }
-
-        // The lower of a digit's two bits.
-        fn digit_bit(j: usize) -> usize {
-            1 << (2 * j)
-        }
-
-        // Rule 1 of edge i.
-        pub fn edge_row(plan: &[u8], i: usize) -> Propagator {
-            Propagator {
-                from: edge_to(plan, i),
-                avoid: 0,
-                add: edge_label(plan, i),
-                up: edge_up(plan, i),
-                down: edge_down(plan, i),
-            }
-        }
-
-        // Rule 2 of link i.
-        pub fn lower_row(plan: &[u8], i: usize) -> Propagator {
-            Propagator {
-                from: link_finish(plan, i),
-                avoid: link_bit(plan, i),
-                add: 0,
-                up: link_least(plan, i),
-                down: 0,
-            }
-        }
-
-        // Rule 3 of link i.
-        pub fn upper_row(plan: &[u8], i: usize) -> Propagator {
-            Propagator {
-                from: link_activation(plan, i),
-                avoid: 0,
-                add: link_bit(plan, i),
-                up: 0,
-                down: link_most(plan, i),
-            }
-        }
-
-        // Rule 4 of link i.
-        pub fn letter_row(plan: &[u8], i: usize) -> Remover {
-            let bit = link_bit(plan, i);
-            Remover { other: link_activation(plan, i), mask: bit, low: bit, add: link_least(plan, i) }
-        }
-
-        // Rule 6 of proposition j. Nothing is added, so a starting line of the observing point gives wait 0, which is nothing.
-        pub fn literal_row(plan: &[u8], j: usize) -> Remover {
-            Remover { other: observer(plan, j), mask: digit_mask(j), low: digit_bit(j), add: 0 }
         }
     }
 }
 
 // Refusals 1 to 5 of a plan.
-mod refusals {
+mod plan_refusal {
     pub use self::refusals::refusal;
 
     // Refusals 1 to 5, in their order.
@@ -1000,9 +501,520 @@ mod refusals {
     }
 }
 
+// One point's part of the next table, and the copy of a table's first cells.
+mod rules_fill {
+    pub use self::cells::copy_cells;
+    pub use self::fill::fill_point;
+
+    // The loops over a point's cells, one for each shape of rule.
+    mod cells {
+        use super::super::plan::cell_at;
+        use super::super::plan::widen_cell;
+        use super::shapes::cleared;
+        use super::shapes::joined;
+        use super::shapes::propagated;
+        use super::shapes::removed;
+        use super::shapes::touches;
+        use super::shapes::Propagator;
+        use super::shapes::Remover;
+
+        fn raise(part: &mut [u32], place: usize, wait: u64) {
+            if widen_cell(part[place]) < wait {
+                part[place] = wait as u32;
+            }
+        }
+
+        // The first n cells of one table into another.
+        pub fn copy_cells(source: &[u32], target: &mut [u32], n: usize) {
+            for c in 0..n {
+                target[c] = source[c];
+            }
+        }
+
+        // Rules 1 to 3, from all cells of one point.
+        pub fn propagate_in(
+            marks: &[u8; 256],
+            first: &[u32],
+            part: &mut [u32],
+            width: usize,
+            mask: usize,
+            by: Propagator,
+        ) {
+            let base = by.from * width;
+            for c in 0..width {
+                let wait = propagated(marks, by, mask, c, cell_at(first, base + c));
+                raise(part, joined(c, by.add), wait);
+            }
+        }
+
+        // Rules 4 and 6, from one line (its place cleared) and the other point's cell at c, a place that has no bit of the mask.
+        fn remove_at(
+            first: &[u32],
+            part: &mut [u32],
+            base: usize,
+            by: Remover,
+            place: usize,
+            wait: u64,
+            c: usize,
+        ) {
+            let w = removed(by, wait, c, cell_at(first, base + c));
+            raise(part, joined(place, c), w);
+        }
+
+        // The same from the other point's cells from lo on and below hi.
+        fn remove_run(
+            first: &[u32],
+            part: &mut [u32],
+            base: usize,
+            by: Remover,
+            place: usize,
+            wait: u64,
+            lo: usize,
+            hi: usize,
+        ) {
+            for c in lo..hi {
+                remove_at(first, part, base, by, place, wait, c);
+            }
+        }
+
+        // Rules 4 and 6, from one line (its place cleared) and all cells of the other point.
+        // In each block only the first places have no bit of the mask: the others give nothing, and are passed over.
+        fn remove_one(first: &[u32], part: &mut [u32], width: usize, by: Remover, place: usize, wait: u64) {
+            let base = by.other * width;
+            let block = by.mask + by.low;
+            let mut start = 0;
+            while start < width {
+                remove_run(first, part, base, by, place, wait, start, start + by.low);
+                start += block;
+            }
+        }
+
+        // The same from any line: nothing where it waits 0 or has no bit of the mask.
+        fn remove_cell(first: &[u32], part: &mut [u32], width: usize, by: Remover, place: usize, wait: u64) {
+            if wait == 0 {
+                return;
+            }
+            if !touches(by.mask, place) {
+                return;
+            }
+            let rest = cleared(place, by.mask);
+            remove_one(first, part, width, by, rest, wait);
+        }
+
+        // Rules 4 and 6, from all cells of point x.
+        pub fn remove_in(first: &[u32], part: &mut [u32], width: usize, by: Remover, x: usize) {
+            let base = x * width;
+            for c in 0..width {
+                remove_cell(first, part, width, by, c, cell_at(first, base + c));
+            }
+        }
+
+        fn clear_cell(part: &mut [u32], mask: usize, place: usize, wait: u64) {
+            if touches(mask, place) {
+                let rest = cleared(place, mask);
+                raise(part, rest, wait);
+            }
+        }
+
+        // Rule 5, at the observing point x.
+        pub fn clear_in(first: &[u32], part: &mut [u32], width: usize, mask: usize, x: usize) {
+            let base = x * width;
+            for c in 0..width {
+                clear_cell(part, mask, c, cell_at(first, base + c));
+            }
+        }
+    }
+
+    // Filling one point's part of the second table, row by row.
+    mod fill {
+        use super::super::plan::edge_from;
+        use super::super::plan::edges;
+        use super::super::plan::link_activation;
+        use super::super::plan::link_finish;
+        use super::super::plan::links;
+        use super::super::plan::observer;
+        use super::super::plan::points;
+        use super::super::plan::propositions;
+        use super::super::plan::width as point_width;
+        use super::cells::clear_in;
+        use super::cells::copy_cells;
+        use super::cells::propagate_in;
+        use super::cells::remove_in;
+        use super::rows::digit_mask;
+        use super::rows::edge_row;
+        use super::rows::label_mask;
+        use super::rows::letter_row;
+        use super::rows::literal_row;
+        use super::rows::lower_row;
+        use super::rows::upper_row;
+        use super::shapes::Propagator;
+
+        // Rule 1 of edge i, if it starts at x.
+        fn edge_in(
+            plan: &[u8],
+            marks: &[u8; 256],
+            first: &[u32],
+            part: &mut [u32],
+            width: usize,
+            mask: usize,
+            x: usize,
+            i: usize,
+        ) {
+            if edge_from(plan, i) != x {
+                return;
+            }
+            let by = edge_row(plan, i);
+            propagate_in(marks, first, part, width, mask, by);
+        }
+
+        fn fill_edges(
+            plan: &[u8],
+            marks: &[u8; 256],
+            first: &[u32],
+            part: &mut [u32],
+            width: usize,
+            mask: usize,
+            x: usize,
+        ) {
+            let n = edges(plan);
+            for i in 0..n {
+                edge_in(plan, marks, first, part, width, mask, x, i);
+            }
+        }
+
+        // Rule 1 of the horizon edge to y.
+        fn horizon_in(
+            _plan: &[u8],
+            marks: &[u8; 256],
+            horizon: u64,
+            first: &[u32],
+            part: &mut [u32],
+            width: usize,
+            mask: usize,
+            y: usize,
+        ) {
+            let by = Propagator { from: y, avoid: 0, add: 0, up: horizon, down: 0 };
+            propagate_in(marks, first, part, width, mask, by);
+        }
+
+        // Rule 1 of every horizon edge: they start at point 0.
+        fn fill_horizon(
+            plan: &[u8],
+            marks: &[u8; 256],
+            horizon: u64,
+            first: &[u32],
+            part: &mut [u32],
+            width: usize,
+            mask: usize,
+        ) {
+            let n = points(plan);
+            for y in 1..n {
+                horizon_in(plan, marks, horizon, first, part, width, mask, y);
+            }
+        }
+
+        fn horizon_at(
+            plan: &[u8],
+            marks: &[u8; 256],
+            horizon: u64,
+            first: &[u32],
+            part: &mut [u32],
+            width: usize,
+            mask: usize,
+            x: usize,
+        ) {
+            if x != 0 {
+                return;
+            }
+            fill_horizon(plan, marks, horizon, first, part, width, mask);
+        }
+
+        // Rule 2 of link i, if its activation is x.
+        fn lower_in(
+            plan: &[u8],
+            marks: &[u8; 256],
+            first: &[u32],
+            part: &mut [u32],
+            width: usize,
+            mask: usize,
+            x: usize,
+            i: usize,
+        ) {
+            if link_activation(plan, i) != x {
+                return;
+            }
+            let by = lower_row(plan, i);
+            propagate_in(marks, first, part, width, mask, by);
+        }
+
+        // Rule 3 of link i, if its end is x.
+        fn upper_in(
+            plan: &[u8],
+            marks: &[u8; 256],
+            first: &[u32],
+            part: &mut [u32],
+            width: usize,
+            mask: usize,
+            x: usize,
+            i: usize,
+        ) {
+            if link_finish(plan, i) != x {
+                return;
+            }
+            let by = upper_row(plan, i);
+            propagate_in(marks, first, part, width, mask, by);
+        }
+
+        // Rule 4 of link i.
+        fn letter_in(plan: &[u8], first: &[u32], part: &mut [u32], width: usize, x: usize, i: usize) {
+            let by = letter_row(plan, i);
+            remove_in(first, part, width, by, x);
+        }
+
+        // Rules 2 to 4 of link i.
+        fn fill_link(
+            plan: &[u8],
+            marks: &[u8; 256],
+            first: &[u32],
+            part: &mut [u32],
+            width: usize,
+            mask: usize,
+            x: usize,
+            i: usize,
+        ) {
+            lower_in(plan, marks, first, part, width, mask, x, i);
+            upper_in(plan, marks, first, part, width, mask, x, i);
+            letter_in(plan, first, part, width, x, i);
+        }
+
+        fn fill_links(
+            plan: &[u8],
+            marks: &[u8; 256],
+            first: &[u32],
+            part: &mut [u32],
+            width: usize,
+            mask: usize,
+            x: usize,
+        ) {
+            let n = links(plan);
+            for i in 0..n {
+                fill_link(plan, marks, first, part, width, mask, x, i);
+            }
+        }
+
+        // Rule 5 of proposition j, if its observing point is x.
+        fn own_literal_in(plan: &[u8], first: &[u32], part: &mut [u32], width: usize, x: usize, j: usize) {
+            if observer(plan, j) != x {
+                return;
+            }
+            clear_in(first, part, width, digit_mask(j), x);
+        }
+
+        // Rule 6 of proposition j.
+        fn literal_in(plan: &[u8], first: &[u32], part: &mut [u32], width: usize, x: usize, j: usize) {
+            let by = literal_row(plan, j);
+            remove_in(first, part, width, by, x);
+        }
+
+        // Rules 5 and 6 of proposition j.
+        fn fill_proposition(plan: &[u8], first: &[u32], part: &mut [u32], width: usize, x: usize, j: usize) {
+            own_literal_in(plan, first, part, width, x, j);
+            literal_in(plan, first, part, width, x, j);
+        }
+
+        fn fill_propositions(plan: &[u8], first: &[u32], part: &mut [u32], width: usize, x: usize) {
+            let n = propositions(plan);
+            for j in 0..n {
+                fill_proposition(plan, first, part, width, x, j);
+            }
+        }
+
+        // The part of the next table that belongs to point x, and which starts at part's first cell; what lies past it is untouched.
+        pub fn fill_point(
+            plan: &[u8],
+            marks: &[u8; 256],
+            horizon: u64,
+            first: &[u32],
+            part: &mut [u32],
+            x: usize,
+        ) {
+            let width = point_width(plan);
+            let mask = label_mask(plan);
+            let start = x * width;
+            copy_cells(&first[start..], part, width);
+            fill_edges(plan, marks, first, part, width, mask, x);
+            horizon_at(plan, marks, horizon, first, part, width, mask, x);
+            fill_links(plan, marks, first, part, width, mask, x);
+            fill_propositions(plan, first, part, width, x);
+        }
+    }
+
+    // The shapes of a plan's rows: what a row avoids, adds and removes, as bits of a place.
+    mod rows {
+        use super::super::plan::edge_down;
+        use super::super::plan::edge_label;
+        use super::super::plan::edge_to;
+        use super::super::plan::edge_up;
+        use super::super::plan::labels;
+        use super::super::plan::link_activation;
+        use super::super::plan::link_finish;
+        use super::super::plan::link_least;
+        use super::super::plan::link_most;
+        use super::super::plan::observer;
+        use super::super::plan::propositions;
+        use super::shapes::Propagator;
+        use super::shapes::Remover;
+
+        // The bits of a label.
+        pub fn label_mask(plan: &[u8]) -> usize {
+            labels(plan) - 1
+        }
+
+        pub fn link_bit(plan: &[u8], i: usize) -> usize {
+            1 << (2 * propositions(plan) + i)
+        }
+
+        pub fn digit_mask(j: usize) -> usize {
+            3 << (2 * j)
+        }
+
+        // The lower of a digit's two bits.
+        fn digit_bit(j: usize) -> usize {
+            1 << (2 * j)
+        }
+
+        // Rule 1 of edge i.
+        pub fn edge_row(plan: &[u8], i: usize) -> Propagator {
+            Propagator {
+                from: edge_to(plan, i),
+                avoid: 0,
+                add: edge_label(plan, i),
+                up: edge_up(plan, i),
+                down: edge_down(plan, i),
+            }
+        }
+
+        // Rule 2 of link i.
+        pub fn lower_row(plan: &[u8], i: usize) -> Propagator {
+            let bit = link_bit(plan, i);
+            Propagator { from: link_finish(plan, i), avoid: bit, add: 0, up: link_least(plan, i), down: 0 }
+        }
+
+        // Rule 3 of link i.
+        pub fn upper_row(plan: &[u8], i: usize) -> Propagator {
+            let bit = link_bit(plan, i);
+            Propagator {
+                from: link_activation(plan, i),
+                avoid: 0, // the link may be in the set already
+                add: bit,
+                up: 0,
+                down: link_most(plan, i),
+            }
+        }
+
+        // Rule 4 of link i.
+        pub fn letter_row(plan: &[u8], i: usize) -> Remover {
+            let bit = link_bit(plan, i);
+            let least = link_least(plan, i);
+            Remover { other: link_activation(plan, i), mask: bit, low: bit, add: least }
+        }
+
+        // Rule 6 of proposition j. Nothing is added, so a starting line of the observing point gives wait 0, which is nothing.
+        pub fn literal_row(plan: &[u8], j: usize) -> Remover {
+            Remover { other: observer(plan, j), mask: digit_mask(j), low: digit_bit(j), add: 0 }
+        }
+    }
+
+    // What the rules give at one place, or two, in the three shapes that serve filling and finding.
+    mod shapes {
+        use super::super::plan::is_plain;
+        use super::super::plan::lesser;
+
+        // Rules 1 to 3, by their row: every line of one point goes to another point, with bits added to its place, unless it has a bit to avoid.
+        // The weight of the row is up less down.
+        #[derive(Clone, Copy)]
+        pub struct Propagator {
+            pub from: usize,
+            pub avoid: usize,
+            pub add: usize,
+            pub up: u64,
+            pub down: u64,
+        }
+
+        // Rules 4 and 6, by their row: the bits of the mask are removed with a line of the other point.
+        // The mask is a run of bits, and low the lowest of them.
+        #[derive(Clone, Copy)]
+        pub struct Remover {
+            pub other: usize,
+            pub mask: usize,
+            pub low: usize,
+            pub add: u64,
+        }
+
+        // Two places made one: a single `|` joins their labels and unites their sets.
+        pub fn joined(a: usize, b: usize) -> usize {
+            a | b
+        }
+
+        pub fn cleared(place: usize, mask: usize) -> usize {
+            place - (place & mask)
+        }
+
+        // The wait less the weight, or 0.
+        fn weighed(wait: u64, up: u64, down: u64) -> u64 {
+            if up < wait + down {
+                wait + down - up
+            } else {
+                0
+            }
+        }
+
+        fn is_line(place: usize, wait: u64) -> bool {
+            0 < wait || place == 0
+        }
+
+        // Whether the place has a bit of the mask.
+        pub fn touches(mask: usize, place: usize) -> bool {
+            place & mask != 0
+        }
+
+        // Whether the label of the place is plain.
+        fn has_plain_label(marks: &[u8; 256], mask: usize, place: usize) -> bool {
+            is_plain(marks, place & mask)
+        }
+
+        pub fn propagated(marks: &[u8; 256], by: Propagator, mask: usize, place: usize, wait: u64) -> u64 {
+            if !is_line(place, wait) {
+                return 0;
+            }
+            if touches(by.avoid, place) {
+                return 0;
+            }
+            if !has_plain_label(marks, mask, place) {
+                return 0;
+            }
+            if !has_plain_label(marks, mask, joined(place, by.add)) {
+                return 0;
+            }
+            weighed(wait, by.up, by.down)
+        }
+
+        // The other line's place has no bit of the mask: callers pass over places that have one.
+        pub fn removed(by: Remover, wait: u64, place: usize, other: u64) -> u64 {
+            if !is_line(place, other) {
+                return 0;
+            }
+            lesser(wait, other + by.add)
+        }
+    }
+}
+
 // The points that a point's next cells rest on.
-mod sources {
+mod rounds_sources {
     pub use self::points::find_sources;
+
+    // The set of all points, of which a plan has at most 32.
+    pub const ALL_POINTS: usize = 4294967295;
 
     // Sets of points, a bit for each: from which points' lines the rules give a line of a point.
     mod points {
@@ -1015,9 +1027,7 @@ mod sources {
         use super::super::plan::observer;
         use super::super::plan::points;
         use super::super::plan::propositions;
-
-        // All points: a horizon edge runs to each of them from the first alarm.
-        const ALL: usize = 4294967295;
+        use super::ALL_POINTS;
 
         fn bit(x: usize) -> usize {
             1 << x
@@ -1070,12 +1080,12 @@ mod sources {
             set
         }
 
+        // Horizon edges run from the first alarm to all points.
         fn sources(plan: &[u8], x: usize) -> usize {
-            let rows = of_edges(plan, x) | of_links(plan, x) | of_propositions(plan, x);
-            if x != 0 {
-                return rows;
+            if x == 0 {
+                return ALL_POINTS;
             }
-            rows | ALL
+            of_edges(plan, x) | of_links(plan, x) | of_propositions(plan, x)
         }
 
         // The sources of every point.
@@ -1089,16 +1099,17 @@ mod sources {
 }
 
 // Lent tables: their first cells, and one round.
-mod tables {
+mod rounds_tables {
     pub use self::cells::clear_cells;
-    pub use self::cells::copy_cells;
+    pub use self::cells::copy_changed;
     pub use self::cells::first_alarm_waits;
     pub use self::cells::same_cells;
-    pub use self::cells::settle;
     pub use self::making::next_round;
 
-    // The first cells of lent tables: what two of them have in common, whether one is above 0, copies, zeros.
+    // The first cells of lent tables: whether they agree, whether one is above 0, zeros, and a copy of those that differ.
     mod cells {
+        use super::super::rules_fill::copy_cells;
+
         // Whether the first cells of two tables agree, point by point up to the first cell that differs.
         pub fn same_cells(first: &[u32], second: &[u32], points: usize, width: usize) -> bool {
             let mut agree = true;
@@ -1124,13 +1135,6 @@ mod tables {
             false
         }
 
-        // The first n cells of one table into another.
-        pub fn copy_cells(source: &[u32], target: &mut [u32], n: usize) {
-            for c in 0..n {
-                target[c] = source[c];
-            }
-        }
-
         // The first n cells at 0.
         pub fn clear_cells(table: &mut [u32], n: usize) {
             for c in 0..n {
@@ -1138,8 +1142,8 @@ mod tables {
             }
         }
 
-        // The cells of point x from one table to another, unless they agree: then nothing, else the point's bit.
-        fn settle_point(source: &[u32], target: &mut [u32], width: usize, x: usize) -> usize {
+        // The cells of point x from one table to another, unless they agree; the point's bit if they differed, else 0.
+        fn copy_changed_point(source: &[u32], target: &mut [u32], width: usize, x: usize) -> usize {
             let start = x * width;
             if same_cells(&source[start..], &target[start..], 1, width) {
                 return 0;
@@ -1149,10 +1153,10 @@ mod tables {
         }
 
         // The cells of all points from one table to another; the set of the points whose cells differed.
-        pub fn settle(source: &[u32], target: &mut [u32], points: usize, width: usize) -> usize {
+        pub fn copy_changed(source: &[u32], target: &mut [u32], points: usize, width: usize) -> usize {
             let mut changed = 0;
             for x in 0..points {
-                changed = changed | settle_point(source, target, width, x);
+                changed = changed | copy_changed_point(source, target, width, x);
             }
             changed
         }
@@ -1160,10 +1164,10 @@ mod tables {
 
     // One round from a lent table to another.
     mod making {
-        use super::super::filling::fill_point;
         use super::super::plan::cells;
         use super::super::plan::points;
         use super::super::plan::width as point_width;
+        use super::super::rules_fill::fill_point;
 
         // Fills the part of point x, which has the point's cells, unless none of its sources changed: it then keeps them.
         fn refill_point(
@@ -1182,7 +1186,7 @@ mod tables {
             fill_point(plan, marks, horizon, first, part, x);
         }
 
-        // The same round where the second table has the first's cells, and where it is known from which points lines come and which points changed.
+        // One round where the second table has the first's cells: only points with a source that changed are filled.
         pub fn next_round(
             plan: &[u8],
             marks: &[u8; 256],
@@ -1216,7 +1220,7 @@ mod tables {
 mod rounds {
     pub use self::running::check;
 
-    // What the check answers.
+    // What the check answers; specs/Outcomes says what each stands for.
     pub enum Answer {
         Kept(u32),
         Broken(u32),
@@ -1231,18 +1235,16 @@ mod rounds {
         use super::super::plan::plain_marks;
         use super::super::plan::points;
         use super::super::plan::width as point_width;
-        use super::super::refusals::refusal;
-        use super::super::sources::find_sources;
-        use super::super::tables::clear_cells;
-        use super::super::tables::copy_cells;
-        use super::super::tables::first_alarm_waits;
-        use super::super::tables::next_round;
-        use super::super::tables::same_cells;
-        use super::super::tables::settle;
+        use super::super::plan_refusal::refusal;
+        use super::super::rounds_sources::find_sources;
+        use super::super::rounds_sources::ALL_POINTS;
+        use super::super::rounds_tables::clear_cells;
+        use super::super::rounds_tables::copy_changed;
+        use super::super::rounds_tables::first_alarm_waits;
+        use super::super::rounds_tables::next_round;
+        use super::super::rounds_tables::same_cells;
+        use super::super::rules_fill::copy_cells;
         use super::Answer;
-
-        // All points: before the first round nothing is known of any.
-        const ALL: usize = 4294967295;
 
         // Whether the round from the first table to the second stops the rounds.
         fn stops(first: &[u32], second: &[u32], points: usize, width: usize) -> bool {
@@ -1252,14 +1254,14 @@ mod rounds {
             same_cells(first, second, points, width)
         }
 
-        // A round made: whether it stops the rounds, and a set that has all points that it changed.
-        pub struct MadeRound {
+        // A round made: whether it stops the rounds, and the set of the points that it changed.
+        pub struct Round {
             pub stops: bool,
             pub changed: usize,
         }
 
         // One round of both tables, which have the same cells before it and after it.
-        fn turn(
+        fn make_round(
             plan: &[u8],
             marks: &[u8; 256],
             horizon: u64,
@@ -1267,12 +1269,12 @@ mod rounds {
             second: &mut [u32],
             sources: &[usize],
             changed: usize,
-        ) -> MadeRound {
+        ) -> Round {
             let n = points(plan);
             let width = point_width(plan);
             next_round(plan, marks, horizon, first, second, sources, changed);
             let ended = stops(first, second, n, width);
-            MadeRound { stops: ended, changed: settle(second, first, n, width) }
+            Round { stops: ended, changed: copy_changed(second, first, n, width) }
         }
 
         // The answer of the round that stopped.
@@ -1283,7 +1285,7 @@ mod rounds {
             Answer::Kept(made)
         }
 
-        // Rounds from two tables with the same cells, up to the limit.
+        // Rounds from two tables with the same cells, up to the limit. Before the first round every point counts as changed.
         fn rounds_to(
             plan: &[u8],
             marks: &[u8; 256],
@@ -1295,17 +1297,17 @@ mod rounds {
             let width = point_width(plan);
             let mut sources = [0usize; 32];
             find_sources(plan, &mut sources);
-            let mut changed = ALL;
+            let mut changed = ALL_POINTS;
             let mut made = 0;
             while made < limit {
                 made += 1;
-                let turned = turn(plan, marks, horizon, first, second, &sources, changed);
-                if turned.stops {
+                let round = make_round(plan, marks, horizon, first, second, &sources, changed);
+                if round.stops {
                     return ending(second, width, made);
                 }
-                changed = turned.changed;
+                changed = round.changed;
             }
-            Answer::Spent(limit)
+            Answer::Spent(made)
         }
 
         // Rounds from the first table's cells, up to the limit; both tables then hold the last round's table.
