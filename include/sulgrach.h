@@ -13,8 +13,8 @@
  *
  * The codes of sulgrach_check and sulgrach_list:
  *
- *     SULGRACH_KEPT              0   the panel can keep the plan
- *     SULGRACH_BROKEN            1   it cannot
+ *     SULGRACH_KEPT              0   a panel can keep the plan
+ *     SULGRACH_BROKEN            1   no panel can
  *     SULGRACH_SPENT             2   the limit was too small to tell
  *     SULGRACH_REFUSED + N   100+N   turned down for the reason N
  *
@@ -98,8 +98,8 @@ uint32_t sulgrach_list(
     uint8_t *out, size_t out_length,
     uint32_t *numbers, size_t numbers_length);
 
-/* Replay of a listing: 0 where its lines derive from the plan that the first alarm waits for itself, so that the plan is
- * broken; else the reason, as N and not as 100+N: 1 to 5 for the plan, 8 to 11 for the listing. Nothing is written. */
+/* Replay of a listing: 0 where its lines derive from the plan that the first alarm waits for itself, so that no panel can
+ * keep it; else the reason, as N and not as 100+N: 1 to 5 for the plan, 8 to 11 for the listing. Nothing is written. */
 uint32_t sulgrach_replay(
     const uint8_t *plan, size_t plan_length,
     const uint8_t *listing, size_t listing_length);

@@ -14,7 +14,7 @@ use Rattle.rules.specs.declared.Line.{Line}
 use Rattle.rules.specs.Lines.{fromTo, lineAt, startingLine}
 use Rattle.replay.specs.Listings.{lineCount, headLine}
 use Rattle.replay.specs.Derives.{LineDerives, ListingDerives}
-use Rattle.replay.proofs.ListingLaws.{derives-replay, listing-derivation, listing-self-wait}
+use Rattle.replay.proofs.ListingLaws.{derives-replay, listing-derivation, listing-self-wait, listing-no-panel}
 use Rattle.listing_lines.specs.Listed.{table, linesTo, lastCell, listingLines, BreaksIn}
 use Rattle.listing_lines.specs.Handed.{Listing}
 use Rattle.listing_write.specs.Progress.{Appended}
@@ -74,4 +74,5 @@ module _ (plan : List ℕ) (accepted : Accepted plan) (r : ℕ) (breaks : Breaks
           derives = d;
           derivation = listing-derivation plan cs d;
           self-wait = listing-self-wait plan cs d;
+          no-panel = listing-no-panel plan cs d;
         }

@@ -43,12 +43,14 @@ cond-le : (t : Bool) {x y n : ℕ} → x ≤ n → y ≤ n → cond t x y ≤ n
 cond-le true h k = h
 cond-le false h k = k
 
+pub join-digit-lt : (x y : ℕ) → x < 4 → y < 4 → joinDigit x y < 4
+unfolding joinDigit
+join-digit-lt x y h k = let e : joinDigit x y ≤ 3 = cond-le (eqb x 0) (omega arith) (cond-le (eqb y 0) (omega arith) (cond-le (eqb x y) (omega arith) (omega arith))) in omega arith
+
 pub join-lt : (p a b : ℕ) → join p a b < 4 ^ p
-unfolding join joinDigit
+unfolding join
 join-lt zero a b = omega arith
-join-lt (suc p) a b =
-    let h : joinDigit (a % 4) (b % 4) ≤ 3 = cond-le (eqb (a % 4) 0) (omega arith) (cond-le (eqb (b % 4) 0) (omega arith) (cond-le (eqb (a % 4) (b % 4)) (omega arith) (omega arith))) in
-    omega (arith, join-lt p (a / 4) (b / 4), h)
+join-lt (suc p) a b = omega (arith, join-lt p (a / 4) (b / 4), join-digit-lt (a % 4) (b % 4) (mod-lt a (lit< tt)) (mod-lt b (lit< tt)))
 
 -- the empty label yields to any
 pub join-none : (p b : ℕ) → b < 4 ^ p → join p 0 b ≡ b
@@ -56,7 +58,7 @@ unfolding join joinDigit
 join-none zero b h = omega arith
 join-none (suc p) b h = let e : join p 0 (b / 4) ≡ b / 4 = join-none p (b / 4) (quarter-lt p b h) in omega arith
 
-below4 : (P : ℕ → Type 0) → P 0 → P 1 → P 2 → P 3 → (x : ℕ) → x < 4 → P x
+pub below4 : (P : ℕ → Type 0) → P 0 → P 1 → P 2 → P 3 → (x : ℕ) → x < 4 → P x
 below4 P a b c d zero h = a
 below4 P a b c d (suc zero) h = b
 below4 P a b c d (suc (suc zero)) h = c

@@ -1,4 +1,5 @@
 pub mod LabelLaws
+pub mod Digits
 pub mod Places
 pub mod Ranges
 mod Greatest

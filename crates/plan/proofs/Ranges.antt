@@ -3,7 +3,7 @@ use mathlib.Core.Path.{_≡_, refl}
 use mathlib.Core.Bool.{Bool, true, false, cond, not}
 use mathlib.Core.List.{List}
 use Prim.Native.Nat.{ℕ, zero, suc, _*_, _^_, _≤_, _<_, max}
-use native.Mathlib.Nat.{le-trans, mul-le-mul, le-max-left, le-max-right}
+use native.Mathlib.Nat.{le-refl, le-trans, mul-le-mul, le-max-left, le-max-right}
 use native.Mathlib.Decide.{ℕ-discrete}
 use native.Mathlib.Omega.{arith}
 use lib.Dec.{T as Is, ltb, eqb, ltb→lt, leb→le, eqb→eq}
@@ -14,7 +14,8 @@ use Rattle.plan.specs.Plan.{Plan, cells}
 use Rattle.plan.specs.Layout.{planOf, greatest, mostAt, downAt, largestOf, lengthFor}
 use Rattle.plan.specs.Refusal.{every, sizesFit, observerFits, linkEndsFit, durationFits, linkFits, edgeEndsFit, labelFits, edgeFits, refusalOf, refusal, Accepted}
 
--- of any plan, also of one that no bytes stand for: rows lie among the points, durations are ordered, M bounds what a rule adds to a wait
+-- of any plan, also of one that no bytes stand for: rows lie among the points, durations are ordered, M bounds what a rule adds to a wait,
+-- and the horizon is n × M or more
 pub record WellFormed (P : Plan) : Type 0 where
   pub two : 1 < P .points
   pub observer-in : (j : ℕ) → j < P .propositions → (0 < P .observer j) × (P .observer j < P .points)
@@ -27,6 +28,7 @@ pub record WellFormed (P : Plan) : Type 0 where
   pub label-plain : (i : ℕ) → i < P .edges → Is (plain (P .propositions) (P .label i))
   pub most-le : (i : ℕ) → i < P .links → P .most i ≤ P .largest
   pub down-le : (i : ℕ) → i < P .edges → P .down i ≤ P .largest
+  pub horizon-far : P .points * P .largest ≤ P .horizon
 
 -- the bounds (4.2, 4.4, 4.5) that the code's numbers rest on
 pub record Bounded (P : Plan) : Type 0 where
@@ -195,6 +197,7 @@ module _ (bs : List ℕ) where
       label-plain = λ i h. edge-fit bs (planOf bs) fit i h .plain-fit;
       most-le = most-under;
       down-le = down-under;
+      horizon-far = rw horizon-is (le-refl _);
     }
 
     largest-fit : planOf bs .largest ≤ 3600

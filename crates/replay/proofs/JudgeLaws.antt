@@ -37,7 +37,7 @@ use Rattle.replay.specs.Replaying.{laidOut, inRange, parentsKnown, follo
 use Rattle.replay.specs.Derives.{ListingDerives}
 use Rattle.replay.specs.AfterReplay.{AfterReplay}
 use Rattle.replay.specs.Judged.{ruleOption, Judging}
-use Rattle.replay.proofs.ListingLaws.{in-plan, line-derives, lines-judged, replay-derives, derives-replay, listing-derivation, listing-self-wait}
+use Rattle.replay.proofs.ListingLaws.{in-plan, line-derives, lines-judged, replay-derives, derives-replay, listing-derivation, listing-self-wait, listing-no-panel}
 
 -- ---- a conjunction of tests
 pub fails : (b : Bool) → b ≡ false → false ≡ b
@@ -335,7 +335,7 @@ module _ (bs : List ℕ) where
 module _ (plan bs : List ℕ) where
   -- all that replay promises, from its number
   pub replayed : (r : ℕ) → r ≡ replay plan bs → AfterReplay plan bs r
-  replayed r e = record { number-is = e; accepted-derives = derives; derives-accepted = λ d. e ∙ derives-replay plan bs d; derivation = λ z. listing-derivation plan bs (derives z); self-wait = λ z. listing-self-wait plan bs (derives z) }
+  replayed r e = record { number-is = e; accepted-derives = derives; derives-accepted = λ d. e ∙ derives-replay plan bs d; derivation = λ z. listing-derivation plan bs (derives z); self-wait = λ z. listing-self-wait plan bs (derives z); no-panel = λ z. listing-no-panel plan bs (derives z) }
     where
       derives : r ≡ 0 → ListingDerives plan bs
       derives z = replay-derives plan bs (sym e ∙ z)

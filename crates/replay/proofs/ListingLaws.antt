@@ -1,4 +1,4 @@
--- What replay accepts is just what derives (demand 2), and a listing that derives is a derivation that makes the first alarm wait for itself (demand 3).
+-- What replay accepts is just what derives (demand 2), and a listing that derives is a derivation that makes the first alarm wait for itself (demand 3); its plan has no panel.
 use mathlib.Core.Path.{_≡_, refl, sym, ap, subst}
 use mathlib.Core.Bool.{Bool, true, false, cond, not, _&&_, _||_}
 use mathlib.Core.Logic.{inl, inr, ⊎-elim}
@@ -22,6 +22,8 @@ use Rattle.rules.specs.declared.Edge.the-variants.{PlanEdge, HorizonEdge}
 use Rattle.rules.specs.declared.Rule.{Rule}
 use Rattle.rules.specs.declared.Rule.the-variants.{Propagation, LowerCase, UpperCase, LetterRemoval, OwnLiteral, LiteralRemoval}
 use Rattle.rules.specs.Lines.{fromTo, startingLine}
+use Rattle.rules_panel.specs.Strategies.{NoPanel}
+use Rattle.rules_panel.proofs.Broken.{no-panel}
 use Rattle.rules_apply.specs.Applying.{givesLine}
 use Rattle.rules_apply.proofs.SameLines.{gives-facts, facts-give}
 use Rattle.rules.specs.Derivations.{InPlan, Parent, Given, Follows, Derivation, SelfWaitBy}
@@ -268,3 +270,6 @@ module _ (plan bs : List ℕ) (d : ListingDerives plan bs) where
     first-alarm = d .last-first-alarm;
     is-plain = d .last-plain;
   }
+
+  pub listing-no-panel : NoPanel (planOf plan)
+  listing-no-panel = no-panel (planOf plan) (accepted-well-formed plan (d .accepted)) (record { lines = linesIn bs; derives = listing-derivation; by = listing-self-wait })

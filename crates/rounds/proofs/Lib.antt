@@ -7,3 +7,4 @@ pub mod Small
 pub mod RoundsMade
 pub mod Checking
 mod Bench
+mod Ramp

@@ -12,6 +12,7 @@ use Rattle.plan.specs.Layout.{planOf}
 use Rattle.plan.specs.Refusal.{Accepted}
 use Rattle.plan.proofs.Ranges.{WellFormed, accepted-well-formed, accepted-bounded}
 use Rattle.rules.proofs.Next.{IsNext, next-is}
+use Rattle.rules_panel.proofs.Broken.{no-panel}
 use Rattle.rounds_tables.proofs.Comparing.{same-eq}
 use Rattle.rounds.specs.Rounds.{tableFrom, zeros, firstAlarmWaits, stopsAt}
 use Rattle.rounds.specs.Outcomes.{Outcome, kept, broken, spent, refused, runOutcome, runTable}
@@ -65,20 +66,20 @@ module _ (P : Plan) (wf : WellFormed P) where
         go true e =
             let w = self-wait P wf A B v n e in
             let d = ends-broken P (zeros P) limit r h g e in
-            rw (d .outcome-is, d .table-is) (record { broken-then = λ b. w; kept-then = λ k. absurd k; first-longest = λ k. absurd k; second-longest = λ k. absurd k; broken-if = λ u h x. tt; kept-if = λ u h no. no w })
+            rw (d .outcome-is, d .table-is) (record { broken-then = λ b. w; broken-no-panel = λ b. no-panel P wf w; kept-then = λ k. absurd k; first-longest = λ k. absurd k; second-longest = λ k. absurd k; broken-if = λ u h x. tt; kept-if = λ u h no. no w })
         go false e =
             let q = one-holds P (zeros P) r s e in
             let b : B ≡ A = sym (same-eq A B q) in
             let m : IsNext P A A = subst (IsNext P A) b n in
             let d = ends-kept P (zeros P) limit r h g e q in
-            rw (d .outcome-is, d .table-is ∙ b) (record { broken-then = λ x. absurd x; kept-then = λ k. no-self-wait P wf A v m; first-longest = λ k. holds-longest P wf A v m; second-longest = λ k. holds-longest P wf A v m; broken-if = λ u h x. absurd (no-self-wait P wf A v m x); kept-if = λ u h no. tt })
+            rw (d .outcome-is, d .table-is ∙ b) (record { broken-then = λ x. absurd x; broken-no-panel = λ x. absurd x; kept-then = λ k. no-self-wait P wf A v m; first-longest = λ k. holds-longest P wf A v m; second-longest = λ k. holds-longest P wf A v m; broken-if = λ u h x. absurd (no-self-wait P wf A v m x); kept-if = λ u h no. tt })
 
     -- no round up to the limit stops, so that it is not enough
     limit-means : Running P (zeros P) limit → RunMeans
     limit-means g =
         let few : enoughRounds P ≤ limit → ⊥ = λ h. omega (arith, running-bound limit g) in
         let d = ends-spent P (zeros P) limit g in
-        rw (d .outcome-is, d .table-is) (record { broken-then = λ x. absurd x; kept-then = λ x. absurd x; first-longest = λ x. absurd x; second-longest = λ x. absurd x; broken-if = λ u h x. absurd (few h); kept-if = λ u h no. absurd (few h) })
+        rw (d .outcome-is, d .table-is) (record { broken-then = λ x. absurd x; broken-no-panel = λ x. absurd x; kept-then = λ x. absurd x; first-longest = λ x. absurd x; second-longest = λ x. absurd x; broken-if = λ u h x. absurd (few h); kept-if = λ u h no. absurd (few h) })
 
     pub run-means : RunMeans
     run-means = go (stops-or-runs P (zeros P) limit)
@@ -89,12 +90,13 @@ module _ (P : Plan) (wf : WellFormed P) where
 
 -- a refusal says nothing of the plan
 pub refused-means : (P : Plan) (limit k : ℕ) (F G : List ℕ) → Meaning P limit (refused k) F G
-refused-means P limit k F G = record { broken-then = λ x. absurd x; kept-then = λ x. absurd x; first-longest = λ x. absurd x; second-longest = λ x. absurd x; broken-if = λ u. absurd (u tt); kept-if = λ u. absurd (u tt) }
+refused-means P limit k F G = record { broken-then = λ x. absurd x; broken-no-panel = λ x. absurd x; kept-then = λ x. absurd x; first-longest = λ x. absurd x; second-longest = λ x. absurd x; broken-if = λ u. absurd (u tt); kept-if = λ u. absurd (u tt) }
 
 -- the meaning is that of the first cells alone
 pub means-on : (P : Plan) (limit : ℕ) (o : Outcome) (A F G : List ℕ) → length A ≡ cells P → Meaning P limit o A A → Meaning P limit o (A ++ F) (A ++ G)
 means-on P limit o A F G e d = record {
   broken-then = d .broken-then;
+  broken-no-panel = d .broken-no-panel;
   kept-then = d .kept-then;
   first-longest = λ k c h. rw (List·getD-append A F 0 c (omega arith)) (d .first-longest k c h);
   second-longest = λ k c h. rw (List·getD-append A G 0 c (omega arith)) (d .second-longest k c h);

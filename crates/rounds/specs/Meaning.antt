@@ -5,6 +5,7 @@ use Prim.Native.Nat.{ℕ, _+_, _*_, _≤_, _<_}
 use lib.ListN.{getD}
 use Rattle.plan.specs.Plan.{Plan, cells}
 use Rattle.rules.specs.Derivations.{Reaches, SelfWait}
+use Rattle.rules_panel.specs.Strategies.{NoPanel}
 use Rattle.rounds.specs.Outcomes.{Outcome, kept, broken, spent, refused}
 
 abbrev pub IsKept : Outcome → Type 0
@@ -44,9 +45,10 @@ enoughRounds P = cells P * (P .horizon + P .largest + 1) + 1
 abbrev pub servingLimit : ℕ
 servingLimit = 1946435585
 
--- 15.1, 15.2, 15.4: broken and kept say what they mean whatever the limit, and with enough rounds a plan that is not refused gets one of them
+-- 15.1, 15.2, 15.4, 15.6: broken and kept say what they mean whatever the limit, and with enough rounds a plan that is not refused gets one of them
 pub record Meaning (P : Plan) (limit : ℕ) (o : Outcome) (first second : List ℕ) : Type 0 where
   pub broken-then : IsBroken o → SelfWait P
+  pub broken-no-panel : IsBroken o → NoPanel P
   pub kept-then : IsKept o → SelfWait P → ⊥
   pub first-longest : IsKept o → (c : ℕ) → c < cells P → HoldsLongest P c (getD first c 0)
   pub second-longest : IsKept o → (c : ℕ) → c < cells P → HoldsLongest P c (getD second c 0)

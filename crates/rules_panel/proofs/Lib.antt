@@ -1,0 +1,10 @@
+pub mod Dramas
+pub mod Moments
+pub mod Histories
+pub mod LineMeaning
+pub mod RuleSoundness
+pub mod Counts
+pub mod Horizon
+pub mod FewerDurations
+pub mod Broken
+pub mod RampQuick

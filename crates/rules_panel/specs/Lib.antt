@@ -1,0 +1,2 @@
+pub mod Dramas
+pub mod Strategies
