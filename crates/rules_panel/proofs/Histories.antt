@@ -1,15 +1,15 @@
 -- Histories: what stands alike in two dramas that differ only in what is not seen yet.
-use mathlib.Core.Path.{_≡_, sym, ap, _∙_}
+use mathlib.Core.Path.{_≡_, sym, _∙_}
 use mathlib.Core.Bool.{Bool}
-use mathlib.Core.Logic.{_⊎_, inl, inr}
-use Prim.Native.Nat.{ℕ, zero, suc, _+_, _*_, _≤_, _<_}
+use mathlib.Core.Logic.{inl, inr}
+use Prim.Native.Nat.{ℕ, zero, suc, _≤_, _<_}
 use native.Mathlib.Nat.{le-refl, mul-le-mul, mul-le-mul-left}
 use native.Mathlib.Omega.{arith}
 use Rattle.plan.specs.Plan.{Plan}
 use Rattle.plan.proofs.Ranges.{WellFormed}
 use Rattle.rules_panel.specs.Dramas.{Durations, Drama}
-use Rattle.rules_panel.specs.Strategies.{NoEnd, Strategy, Observed, Ended, SameHistory, SamePlace, Panel}
-use Rattle.rules_panel.proofs.Moments.{Among, among, momentAt, lower-before, lower-up-to, moment, position-pos, same-sym, same-moment, sooner}
+use Rattle.rules_panel.specs.Strategies.{Strategy, Observed, Ended, SameHistory, SamePlace, Panel}
+use Rattle.rules_panel.proofs.Moments.{Ends, ends?, momentAt, lower-before, lower-up-to, moment, position-pos, same-sym, same-moment, sooner}
 
 module _ {P : Plan} {E : Durations} (σ : Strategy P E) where
   -- the points that come before moment m, in either drama, stand alike
@@ -101,17 +101,15 @@ module _ {P : Plan} {E : Durations} {q : ℕ} (wf : WellFormed P) (some : 0 < q)
   }
 
   step : (r u : Drama P E) (m n : ℕ) → Alike σ r u m → n ≤ m → SameBefore σ r u n → (x : ℕ) → x < P .points → moment σ r x ≤ n → SamePlace σ r u x
-  step r u m n a l s x h k = go (among (P .finish) x (P .links))
+  step r u m n a l s x h k = go (ends? P x)
     where
-      go : Among (P .finish) x (P .links) ⊎ ((i : ℕ) → i < P .links → P .finish i ≡ x → ⊥) → SamePlace σ r u x
+      go : Ends P x → SamePlace σ r u x
       go (inl e) =
           let i = e .number in
           let up-to : moment σ r (P .finish i) ≤ n = rw (e .is) k in
           let c = before-less σ r u n (moment σ r (P .finish i)) up-to s in
           rw (e .is) at (end-alike r u i (e .under) (c .of-first (P .activation i) (wf .activation-in i (e .under)) (starts-before r i (e .under))) (a .took-first i (e .under) c (omega arith)))
-      go (inr e) =
-          let z : NoEnd P x = record { no-end = e } in
-          panel .dynamic .reacts r u x h z (history (σ .time r x) (σ .position r x) m (position-pos σ r x h z) (omega arith) r u a (before-less σ r u n (moment σ r x) k s))
+      go (inr e) = panel .dynamic .reacts r u x h e (history (σ .time r x) (σ .position r x) m (position-pos σ r x h e) (omega arith) r u a (before-less σ r u n (moment σ r x) k s))
 
   module _ (r u : Drama P E) (m : ℕ) (a : Alike σ r u m) where
     before-moment : (n : ℕ) → n ≤ suc m → SameBefore σ r u n

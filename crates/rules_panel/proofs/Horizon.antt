@@ -1,7 +1,7 @@
 -- The horizon costs nothing: a panel that ends late gives one that ends within the horizon. A pause of more than M seconds, in which nothing happens, is cut to M, and
 -- positions follow the order of the moments.
 use mathlib.Core.Path.{_≡_, refl, sym, ap, subst, _∙_}
-use mathlib.Core.Logic.{_⊎_, inl, inr}
+use mathlib.Core.Logic.{inl, inr}
 use Prim.Native.Nat.{ℕ, suc, _+_, _-_, _*_, _/_, _≤_, _<_}
 use native.Mathlib.Nat.{mul-le-mul-left, mul-div-cancel-left, le-antisymm, le-trans}
 use native.Mathlib.Decide.{decLe, decLt}
@@ -11,8 +11,8 @@ use Rattle.plan.proofs.Ranges.{WellFormed}
 use Rattle.rules_panel.specs.Dramas.{Durations, Drama, True}
 use Rattle.rules_panel.specs.Strategies.{NoEnd, NotObserving, Strategy, Viable, SameHistory, SamePlace, Dynamic, Panel}
 use Rattle.rules_panel.proofs.Counts.{count, count-le, count-lt, count-zero, count-more, count-few, count-each, count-under, From, Near, near?, count-near}
-use Rattle.rules_panel.proofs.Moments.{Among, among, moment, same-moment, sooner, up-to-time, one-position}
-use Rattle.rules_panel.proofs.Histories.{SameBefore, Alike, same-first, same-second}
+use Rattle.rules_panel.proofs.Moments.{Ends, ends?, Observes, observes?, moment, same-moment, sooner, up-to-time, one-position}
+use Rattle.rules_panel.proofs.Histories.{Alike, same-first, same-second}
 use Rattle.rules_panel.proofs.RuleSoundness.{InHorizon}
 
 module _ {P : Plan} {E : Durations} {q : ℕ} (wf : WellFormed P) (some : 0 < q) (panel : Panel q P E) where
@@ -100,54 +100,48 @@ module _ {P : Plan} {E : Durations} {q : ℕ} (wf : WellFormed P) (some : 0 < q)
   unfolding preceding
   preceding-under r j h = count-under (Precedes r (P .observer j)) (precedes? r (P .observer j)) (P .propositions) j h (λ l. omega arith)
 
-  abbrev Ends : ℕ → Type 0
-  Ends x = Among (P .finish) x (P .links) ⊎ ((i : ℕ) → i < P .links → P .finish i ≡ x → ⊥)
-
-  abbrev Observes : ℕ → Type 0
-  Observes x = Among (P .observer) x (P .propositions) ⊎ ((j : ℕ) → j < P .propositions → P .observer j ≡ x → ⊥)
-
-  positionOf : {x : ℕ} → Ends x → Observes x → ℕ → ℕ
+  positionOf : {x : ℕ} → Ends P x → Observes P x → ℕ → ℕ
   positionOf (inl e) o n = 0
   positionOf (inr e) (inl o) n = suc n
   positionOf (inr e) (inr o) n = suc (P .propositions)
 
   cutPosition : Drama P E → ℕ → ℕ
-  cutPosition r x = positionOf (among (P .finish) x (P .links)) (among (P .observer) x (P .propositions)) (preceding r x)
+  cutPosition r x = positionOf (ends? P x) (observes? P x) (preceding r x)
 
   of-end : (r : Drama P E) (i : ℕ) → i < P .links → cutPosition r (P .finish i) ≡ 0
   unfolding cutPosition positionOf
-  of-end r i h = go (among (P .finish) (P .finish i) (P .links)) (among (P .observer) (P .finish i) (P .propositions))
+  of-end r i h = go (ends? P (P .finish i)) (observes? P (P .finish i))
     where
-      go : (e : Ends (P .finish i)) (o : Observes (P .finish i)) → positionOf e o (preceding r (P .finish i)) ≡ 0
+      go : (e : Ends P (P .finish i)) (o : Observes P (P .finish i)) → positionOf e o (preceding r (P .finish i)) ≡ 0
       go (inl e) o = refl
-      go (inr e) o = absurd (e i h refl)
+      go (inr e) o = absurd (e .no-end i h refl)
 
   of-observer : (r : Drama P E) (j : ℕ) → j < P .propositions → cutPosition r (P .observer j) ≡ suc (preceding r (P .observer j))
   unfolding cutPosition positionOf
-  of-observer r j h = go (among (P .finish) (P .observer j) (P .links)) (among (P .observer) (P .observer j) (P .propositions))
+  of-observer r j h = go (ends? P (P .observer j)) (observes? P (P .observer j))
     where
-      go : (e : Ends (P .observer j)) (o : Observes (P .observer j)) → positionOf e o (preceding r (P .observer j)) ≡ suc (preceding r (P .observer j))
+      go : (e : Ends P (P .observer j)) (o : Observes P (P .observer j)) → positionOf e o (preceding r (P .observer j)) ≡ suc (preceding r (P .observer j))
       -- an observing point is no end: their positions differ
       go (inl e) o = absurd (omega (arith, ap (σ .position r) (e .is), σ .end-first r (e .number) (e .under), σ .observing-from r j h))
       go (inr e) (inl o) = refl
-      go (inr e) (inr o) = absurd (o j h refl)
+      go (inr e) (inr o) = absurd (o .not-observing j h refl)
 
   of-other : (r : Drama P E) (x : ℕ) → NoEnd P x → NotObserving P x → cutPosition r x ≡ suc (P .propositions)
   unfolding cutPosition positionOf
-  of-other r x n m = go (among (P .finish) x (P .links)) (among (P .observer) x (P .propositions))
+  of-other r x n m = go (ends? P x) (observes? P x)
     where
-      go : (e : Ends x) (o : Observes x) → positionOf e o (preceding r x) ≡ suc (P .propositions)
+      go : (e : Ends P x) (o : Observes P x) → positionOf e o (preceding r x) ≡ suc (P .propositions)
       go (inl e) o = absurd (n .no-end (e .number) (e .under) (e .is))
       go (inr e) (inl o) = absurd (m .not-observing (o .number) (o .under) (o .is))
       go (inr e) (inr o) = refl
 
   -- a lower position where it comes before
   of-preceding : (r : Drama P E) (j x : ℕ) → j < P .propositions → NoEnd P x → Precedes r x j → cutPosition r (P .observer j) < cutPosition r x
-  of-preceding r j x h n k = go (among (P .observer) x (P .propositions))
+  of-preceding r j x h n k = go (observes? P x)
     where
-      go : Observes x → cutPosition r (P .observer j) < cutPosition r x
+      go : Observes P x → cutPosition r (P .observer j) < cutPosition r x
       go (inl o) = let e = ap (cutPosition r) (o .is) in let f = ap (preceding r) (o .is) in omega (arith, of-observer r j h, of-observer r (o .number) (o .under), preceding-lt r j x h k)
-      go (inr o) = omega (arith, of-observer r j h, preceding-under r j h, of-other r x n (record { not-observing = o }))
+      go (inr o) = omega (arith, of-observer r j h, preceding-under r j h, of-other r x n o)
 
   -- of two observing points one comes before the other
   apart : (r : Drama P E) (i j : ℕ) → i < P .propositions → j < P .propositions → preceding r (P .observer i) ≡ preceding r (P .observer j) → i ≡ j
@@ -242,7 +236,7 @@ module _ {P : Plan} {E : Durations} {q : ℕ} (wf : WellFormed P) (some : 0 < q)
 
     same-place : SamePlace cut r u x
     unfolding cut cutPosition
-    same-place = record { same-time = same-time; same-position = ap (positionOf (among (P .finish) x (P .links)) (among (P .observer) x (P .propositions))) same-preceding }
+    same-place = record { same-time = same-time; same-position = ap (positionOf (ends? P x) (observes? P x)) same-preceding }
 
   cut-dynamic : Dynamic cut
   unfolding cut

@@ -1,13 +1,13 @@
 -- Moments: the time of a point and, among points of one time, its position, in one number. Points come in the order of their moments.
 use mathlib.Core.Path.{_≡_, sym, ap, ap₂, _∙_}
-use mathlib.Core.Logic.{_⊎_, inl, inr}
+use mathlib.Core.Logic.{_⊎_, inl, inr, ⊎-elim}
 use Prim.Native.Nat.{ℕ, zero, suc, _+_, _*_, _≤_, _<_}
 use native.Mathlib.Nat.{suc-mul, mul-le-mul-right}
 use native.Mathlib.Decide.{ℕ-discrete, decLe}
 use native.Mathlib.Omega.{arith}
 use Rattle.plan.specs.Plan.{Plan}
 use Rattle.rules_panel.specs.Dramas.{Durations, Drama}
-use Rattle.rules_panel.specs.Strategies.{NoEnd, Strategy, SamePlace}
+use Rattle.rules_panel.specs.Strategies.{NoEnd, NotObserving, Strategy, SamePlace}
 
 -- ---- a number among f 0 .. f (n - 1), or not
 pub record Among (f : ℕ → ℕ) (x n : ℕ) : Type 0 where
@@ -15,7 +15,7 @@ pub record Among (f : ℕ → ℕ) (x n : ℕ) : Type 0 where
   pub under : number < n
   pub is : f number ≡ x
 
-pub among : (f : ℕ → ℕ) (x n : ℕ) → Among f x n ⊎ ((i : ℕ) → i < n → f i ≡ x → ⊥)
+among : (f : ℕ → ℕ) (x n : ℕ) → Among f x n ⊎ ((i : ℕ) → i < n → f i ≡ x → ⊥)
 among f x zero = inr (λ i h e. omega arith)
 among f x (suc n) = go (among f x n) (ℕ-discrete (f n) x)
   where
@@ -27,6 +27,19 @@ among f x (suc n) = go (among f x n) (ℕ-discrete (f n) x)
         last : (i : ℕ) → i < suc n → f i ≡ x → Dec (i ≡ n) → ⊥
         last i h e (yes k) = ne (ap f (sym k) ∙ e)
         last i h e (no k) = no′ i (omega arith) e
+
+-- a point is the end of a link or not, and observes or not
+abbrev pub Ends : Plan → ℕ → Type 0
+Ends P x = Among (P .finish) x (P .links) ⊎ NoEnd P x
+
+pub ends? : (P : Plan) (x : ℕ) → Ends P x
+ends? P x = ⊎-elim inl (λ n. inr (record { no-end = n })) (among (P .finish) x (P .links))
+
+abbrev pub Observes : Plan → ℕ → Type 0
+Observes P x = Among (P .observer) x (P .propositions) ⊎ NotObserving P x
+
+pub observes? : (P : Plan) (x : ℕ) → Observes P x
+observes? P x = ⊎-elim inl (λ n. inr (record { not-observing = n })) (among (P .observer) x (P .propositions))
 
 -- ---- a time and a position in one number
 module _ (P : Plan) where
@@ -67,23 +80,20 @@ module _ {P : Plan} {E : Durations} (σ : Strategy P E) where
   abbrev pub moment : Drama P E → ℕ → ℕ
   moment r x = momentAt P (σ .time r x) (σ .position r x)
 
-  abbrev Observes : ℕ → Type 0
-  Observes x = Among (P .observer) x (P .propositions) ⊎ ((j : ℕ) → j < P .propositions → P .observer j ≡ x → ⊥)
-
   pub position-pos : (r : Drama P E) (x : ℕ) → x < P .points → NoEnd P x → 0 < σ .position r x
-  position-pos r x h n = go (among (P .observer) x (P .propositions))
+  position-pos r x h n = go (observes? P x)
     where
-      go : Observes x → 0 < σ .position r x
+      go : Observes P x → 0 < σ .position r x
       go (inl b) = let e = ap (σ .position r) (b .is) in omega (arith, σ .observing-from r (b .number) (b .under))
-      go (inr b) = omega (arith, σ .other-last r x h n (record { not-observing = b }))
+      go (inr b) = omega (arith, σ .other-last r x h n b)
 
   position-lt : (r : Drama P E) (x : ℕ) → x < P .points → σ .position r x < positions P
-  position-lt r x h = go (among (P .finish) x (P .links)) (among (P .observer) x (P .propositions))
+  position-lt r x h = go (ends? P x) (observes? P x)
     where
-      go : Among (P .finish) x (P .links) ⊎ ((i : ℕ) → i < P .links → P .finish i ≡ x → ⊥) → Observes x → σ .position r x < positions P
+      go : Ends P x → Observes P x → σ .position r x < positions P
       go (inl a) o = let e = ap (σ .position r) (a .is) in omega (arith, σ .end-first r (a .number) (a .under))
       go (inr a) (inl b) = let e = ap (σ .position r) (b .is) in omega (arith, σ .observing-to r (b .number) (b .under))
-      go (inr a) (inr b) = omega (arith, σ .other-last r x h (record { no-end = a }) (record { not-observing = b }))
+      go (inr a) (inr b) = omega (arith, σ .other-last r x h a b)
 
   module _ (r u : Drama P E) where
     pub same-sym : (x : ℕ) → SamePlace σ r u x → SamePlace σ u r x

@@ -7,7 +7,7 @@ use native.Mathlib.Decide.{decLe, decLt}
 use native.Mathlib.Omega.{arith}
 use lib.Dec.{T as Is, T-not}
 use Rattle.plan.specs.Label.{digit, join, plain, clearDigit}
-use Rattle.plan.specs.LinkSet.{contains, union, remove}
+use Rattle.plan.specs.LinkSet.{contains, remove}
 use Rattle.plan.specs.Plan.{Plan}
 use Rattle.plan.proofs.Digits.{Carries, clear-other, join-left, join-right, plain-known, in-left, in-right, in-added, in-insert, in-remove}
 use Rattle.plan.proofs.Ranges.{WellFormed}
