@@ -2,6 +2,7 @@
 //! generator of plans and listings to run both on.
 
 pub mod compare;
+pub mod game;
 pub mod generate;
 pub mod library;
 pub mod port;

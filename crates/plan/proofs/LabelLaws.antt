@@ -2,12 +2,13 @@
 use mathlib.Core.Path.{_≡_, refl, sym, ap, ap₂, _∙_}
 use mathlib.Core.Bool.{Bool, true, false, cond, not, _&&_}
 use Prim.Native.Nat.{ℕ, zero, suc, _+_, _*_, _/_, _%_, _^_, _≤_, _<_}
-use native.Mathlib.Nat.{pow-suc, mod-lt, div-add-mod', div-lt-iff-lt-mul, div-mul-le-self, mod-le, mul-le-mul-right, le-trans, one-le-pow, zero-div}
+use native.Mathlib.Nat.{pow-suc, mod-lt, div-add-mod', div-lt-iff-lt-mul, one-le-pow, zero-div}
 use native.Mathlib.Omega.{arith}
 use lib.Dec.{eqb, lit<}
 use lib.Bits.{bitOr, or-block}
 use lib.Pow.{pow-add}
 use Rattle.plan.specs.Label.{digit, joinDigit, join, plain, clearDigit}
+use Rattle.plan.proofs.Bases.{digitOf, digit-fits}
 
 -- ---- powers of 4
 pub four-pos : (p : ℕ) → 0 < 4 ^ p
@@ -26,8 +27,8 @@ quarter-lt p a h = div-lt-iff-lt-mul (lit< tt) .1 (rw pow-suc at h)
 -- ---- digits
 -- digit j in its place is no more than the label
 pub digit-le : (a j : ℕ) → digit a j * 4 ^ j ≤ a
-unfolding digit
-digit-le a j = le-trans (mul-le-mul-right (4 ^ j) (mod-le (a / 4 ^ j) 4)) (div-mul-le-self a (4 ^ j))
+unfolding digit digitOf
+digit-le a j = digit-fits 4 (lit< tt) a j
 
 pub clear-le : (a j : ℕ) → clearDigit a j ≤ a
 unfolding clearDigit

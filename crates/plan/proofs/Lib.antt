@@ -1,3 +1,4 @@
+mod Bases
 pub mod LabelLaws
 pub mod Digits
 pub mod Places

@@ -26,7 +26,15 @@ module _ {P : Plan} {E F : Durations} (fewer : (i n : ℕ) → i < P .links → 
       σ = p .strategy
 
       narrow : Strategy P F
-      narrow = record { time = λ r. σ .time (wider r); position = λ r. σ .position (wider r); end-first = λ r. σ .end-first (wider r); observing-from = λ r. σ .observing-from (wider r); observing-to = λ r. σ .observing-to (wider r); distinct = λ r. σ .distinct (wider r); other-last = λ r. σ .other-last (wider r) }
+      narrow = record {
+        time = λ r. σ .time (wider r);
+        position = λ r. σ .position (wider r);
+        end-first = λ r. σ .end-first (wider r);
+        observing-from = λ r. σ .observing-from (wider r);
+        observing-to = λ r. σ .observing-to (wider r);
+        distinct = λ r. σ .distinct (wider r);
+        other-last = λ r. σ .other-last (wider r);
+      }
 
       -- the same history, of either strategy
       to-narrow : {t d : ℕ} (r : Drama P F) (j : ℕ) (b : Bool) → Observed σ t d (wider r) j b → Observed narrow t d r j b

@@ -56,7 +56,10 @@ module _ {P : Plan} {E : Durations} {q : ℕ} (wf : WellFormed P) (some : 0 < q)
       (omega (arith, σ .end-first r i h))
 
   -- where no link is shorter in the second drama, its durations need no look
-  pub alike : (r u : Drama P E) (m : ℕ) → ((j : ℕ) → j < P .propositions → moment σ r (P .observer j) < m → r .scenario j ≡ u .scenario j) → ((i : ℕ) → i < P .links → moment σ r (P .finish i) ≤ m → r .situation i ≡ u .situation i) → ((i : ℕ) → i < P .links → r .situation i ≤ u .situation i) → Alike σ r u m
+  pub alike : (r u : Drama P E) (m : ℕ) → ((j : ℕ) → j < P .propositions → moment σ r (P .observer j) < m → r .scenario j ≡ u .scenario j)
+      → ((i : ℕ) → i < P .links → moment σ r (P .finish i) ≤ m → r .situation i ≡ u .situation i)
+      → ((i : ℕ) → i < P .links → r .situation i ≤ u .situation i)
+      → Alike σ r u m
   alike r u m told took longer = record {
     told = λ j h s. told j h;
     took-first = λ i h s. took i h;

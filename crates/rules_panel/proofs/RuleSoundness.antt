@@ -116,7 +116,8 @@ module _ {P : Plan} {q : ℕ} (wf : WellFormed P) (some : 0 < q) (panel : Panel 
       go r s (yes e) =
           let starts = starts-sooner wf some panel r i h in
           let n : moment σ r (m .point) < moment σ r (l .point) = rw (f .1) (sooner σ r r (P .activation i) (l .point) (wf .activation-in i h) (omega arith)) in
-          let d : q * m .wait ≤ σ .time r (P .activation i) = rw (f .1) at (compare wf some panel m k b bl r s (omega arith) (λ j hj c. join-right (P .propositions) (l .label) (m .label) j hj) r (λ j hj z. s .set-longest j hj (in-right (remove (l .set) i) (m .set) j z)) (λ j hj z. refl) (λ j hj. le-refl _)) in
+          let longest : Longest r (m .set) = λ j hj z. s .set-longest j hj (in-right (remove (l .set) i) (m .set) j z) in
+          let d : q * m .wait ≤ σ .time r (P .activation i) = rw (f .1) at (compare wf some panel m k b bl r s (omega arith) (λ j hj c. join-right (P .propositions) (l .label) (m .label) j hj) r longest (λ j hj z. refl) (λ j hj. le-refl _)) in
           inr (omega (arith, panel .viable .keeps-link r i h, mul-le-mul-left q (r .no-shorter i h)))
       go r s (no e) = inl (compare wf some panel l k a al r s (le-refl _) (λ j hj c. join-left (P .propositions) (l .label) (m .label) j hj) w longest took longer)
         where
@@ -150,7 +151,8 @@ module _ {P : Plan} {q : ℕ} (wf : WellFormed P) (some : 0 < q) (panel : Panel 
 
       go : (r : Drama P (LeastOrMost P)) → SpeaksOf σ k r → Dec (moment σ r (m .point) < moment σ r (l .point)) → (q * l .wait ≤ σ .time r (l .point)) ⊎ (q * m .wait ≤ σ .time r (l .point))
       go r s (yes e) =
-          let d = compare wf some panel m k b bl r s (omega arith) (λ i hi c. join-right (P .propositions) (clearDigit (l .label) j) (m .label) i hi) r (λ i hi z. s .set-longest i hi (in-right (l .set) (m .set) i z)) (λ i hi z. refl) (λ i hi. le-refl _) in
+          let longest : Longest r (m .set) = λ i hi z. s .set-longest i hi (in-right (l .set) (m .set) i z) in
+          let d = compare wf some panel m k b bl r s (omega arith) (λ i hi c. join-right (P .propositions) (clearDigit (l .label) j) (m .label) i hi) r longest (λ i hi z. refl) (λ i hi. le-refl _) in
           inr (omega (arith, up-to-time σ r r (m .point) (l .point) al (omega arith)))
       go r s (no e) = inl (compare wf some panel l k a al r s (le-refl _) carried r (λ i hi z. s .set-longest i hi (in-left (l .set) (m .set) i z)) (λ i hi z. refl) (λ i hi. le-refl _))
         where
