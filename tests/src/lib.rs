@@ -1,5 +1,5 @@
-//! The library under test, a second checker made apart from it, and a seeded
-//! generator of plans and listings to run both on.
+//! The library under test, a second checker and the panel's game made apart
+//! from it, and a seeded generator of plans and listings to run them on.
 
 pub mod compare;
 pub mod game;

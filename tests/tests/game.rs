@@ -2,6 +2,7 @@
 //! win.
 
 use std::collections::HashMap;
+use std::fmt;
 use std::fs;
 use std::path::PathBuf;
 use sulgrach_tests::game::{passes_every_column, read, won, Durations};
@@ -17,11 +18,13 @@ const STEPS: u64 = 30;
 
 #[test]
 fn generated_plans() {
-    let count = times(3_000);
+    let count = times(2_000);
     println!("up to {STEPS} plans of each of {count} seeds from 0");
     let mut tally = Tally::default();
     for seed in 0..count {
-        walk(seed, &SIZES, &[2, 3, 4, 8], |plan, step| tally.compare(plan, seed, step));
+        walk(seed, &SIZES, &[2, 3, 4, 8], |plan, step| {
+            tally.compare(plan, format_args!("seed {seed}, step {step}"))
+        });
     }
     println!("generated_plans: {} checks compared with the game: {tally:?}", tally.won + tally.lost);
     tally.is_enough();
@@ -31,7 +34,7 @@ fn generated_plans() {
 /// small enough for that.
 #[test]
 fn without_shortcuts() {
-    let count = times(400);
+    let count = times(300);
     println!("up to {STEPS} plans of each of {count} seeds from 0");
     let mut answers = [0, 0];
     for seed in 0..count {
@@ -54,9 +57,7 @@ const SITES: [&str; 8] =
 #[test]
 fn written_plans() {
     for name in BENCH.into_iter().chain(SITES) {
-        let bytes = file(&format!("{name}.plan"));
-        let plan = read(&bytes);
-        assert_eq!(plan.bytes(), bytes, "{name}");
+        let plan = plan_of(name);
         let text = String::from_utf8(file(&format!("{name}.out"))).expect("text");
         let kept = match text.split_whitespace().next() {
             Some("kept") => true,
@@ -68,6 +69,44 @@ fn written_plans() {
         assert_eq!(won(&plan, durations), kept, "{name}");
         assert_eq!(check(&plan), if kept { KEPT } else { BROKEN }, "{name}");
     }
+}
+
+/// Plans with one number changed by some seconds: a weight, a least or a most.
+#[test]
+fn changed_plans() {
+    let mut tally = Tally::default();
+    for name in ["ramp", "ramp-quick", "carpark-quick", "hotel"] {
+        let plan = plan_of(name);
+        for row in 0..plan.edges.len() + 2 * plan.links.len() {
+            for seconds in [-20, -5, -1, 1, 5, 20] {
+                if let Some(plan) = changed(&plan, row, seconds) {
+                    tally.compare(&plan, format_args!("{name}, row {row}, {seconds} seconds"));
+                }
+            }
+        }
+    }
+    println!("changed_plans: {} checks compared with the game: {tally:?}", tally.won + tally.lost);
+    assert!(tally.won > 100 && tally.lost_with_every_column > 20, "{tally:?}");
+}
+
+fn changed(plan: &Draft, row: usize, seconds: i64) -> Option<Draft> {
+    let mut plan = plan.clone();
+    let edges = plan.edges.len();
+    if row < edges {
+        plan.edges[row].weight += seconds;
+        return Some(plan);
+    }
+    let link = &mut plan.links[(row - edges) / 2];
+    let number = if (row - edges) % 2 == 0 { &mut link.least } else { &mut link.most };
+    *number += seconds;
+    (0 < link.least && link.least < link.most).then_some(plan)
+}
+
+fn plan_of(name: &str) -> Draft {
+    let bytes = file(&format!("{name}.plan"));
+    let plan = read(&bytes);
+    assert_eq!(plan.bytes(), bytes, "{name}");
+    plan
 }
 
 fn file(name: &str) -> Vec<u8> {
@@ -97,9 +136,8 @@ struct Tally {
 
 impl Tally {
     /// Whether the plan is won. The check has to say the same.
-    fn compare(&mut self, plan: &Draft, seed: u64, step: u64) -> bool {
-        let bytes = plan.bytes();
-        let shown = || format!("seed {seed}, step {step}, bytes {}", hex(&bytes));
+    fn compare(&mut self, plan: &Draft, origin: fmt::Arguments) -> bool {
+        let shown = || format!("{origin}, bytes {}", hex(&plan.bytes()));
         let won = won_either_way(plan, &shown);
         assert_eq!(check(plan), if won { KEPT } else { BROKEN }, "won {won}, {}", shown());
 
