@@ -44,7 +44,7 @@ module _ {P : Plan} {E : Durations} {q : ℕ} (wf : WellFormed P) (some : 0 < q)
 
   -- an activation comes before its end
   pub starts-sooner : (r : Drama P E) (i : ℕ) → i < P .links → σ .time r (P .activation i) < σ .time r (P .finish i)
-  starts-sooner r i h = omega (arith, panel .viable .keeps-link r i h, mul-le-mul some (le-refl 1), mul-le-mul-left q (r .no-shorter i h), mul-le-mul-left q (wf .durations i h .0))
+  starts-sooner r i h = omega (arith, panel .viable .keeps-link r i h, mul-le-mul some (wf .durations i h .0), mul-le-mul-left q (r .no-shorter i h))
 
   pub starts-before : (r : Drama P E) (i : ℕ) → i < P .links → moment σ r (P .activation i) < moment σ r (P .finish i)
   starts-before r i h = sooner σ r r (P .activation i) (P .finish i) (wf .activation-in i h) (starts-sooner r i h)
