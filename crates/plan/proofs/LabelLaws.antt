@@ -1,11 +1,11 @@
 -- Laws of labels: joining two is `|` digit by digit, what a join and a cleared digit are bounded by, and plain labels.
-use mathlib.Core.Path.{_≡_, refl, sym, ap, ap₂, _∙_}
-use mathlib.Core.Bool.{Bool, true, false, cond, not, _&&_}
+use mathlib.Core.Path.{_≡_, refl, sym, ap, ap₂, subst, _∙_}
+use mathlib.Core.Bool.{Bool, true, not, _&&_}
 use Prim.Native.Nat.{ℕ, zero, suc, _+_, _*_, _/_, _%_, _^_, _≤_, _<_}
 use native.Mathlib.Nat.{pow-suc, mod-lt, div-add-mod', div-lt-iff-lt-mul, one-le-pow, zero-div}
 use native.Mathlib.Omega.{arith}
 use lib.Dec.{eqb, lit<}
-use lib.Bits.{bitOr, or-block}
+use lib.Bits.{bitOr, or-block, or-lt}
 use lib.Pow.{pow-add}
 use Rattle.plan.specs.Label.{digit, joinDigit, join, plain, clearDigit}
 use Rattle.plan.proofs.Bases.{digitOf, digit-fits}
@@ -40,25 +40,6 @@ unfolding digit
 digit-none j = rw zero-div
 
 -- ---- joining
-cond-le : (t : Bool) {x y n : ℕ} → x ≤ n → y ≤ n → cond t x y ≤ n
-cond-le true h k = h
-cond-le false h k = k
-
-pub join-digit-lt : (x y : ℕ) → x < 4 → y < 4 → joinDigit x y < 4
-unfolding joinDigit
-join-digit-lt x y h k = let e : joinDigit x y ≤ 3 = cond-le (eqb x 0) (omega arith) (cond-le (eqb y 0) (omega arith) (cond-le (eqb x y) (omega arith) (omega arith))) in omega arith
-
-pub join-lt : (p a b : ℕ) → join p a b < 4 ^ p
-unfolding join
-join-lt zero a b = omega arith
-join-lt (suc p) a b = omega (arith, join-lt p (a / 4) (b / 4), join-digit-lt (a % 4) (b % 4) (mod-lt a (lit< tt)) (mod-lt b (lit< tt)))
-
--- the empty label yields to any
-pub join-none : (p b : ℕ) → b < 4 ^ p → join p 0 b ≡ b
-unfolding join joinDigit
-join-none zero b h = omega arith
-join-none (suc p) b h = let e : join p 0 (b / 4) ≡ b / 4 = join-none p (b / 4) (quarter-lt p b h) in omega arith
-
 pub below4 : (P : ℕ → Type 0) → P 0 → P 1 → P 2 → P 3 → (x : ℕ) → x < 4 → P x
 below4 P a b c d zero h = a
 below4 P a b c d (suc zero) h = b
@@ -77,6 +58,20 @@ digit-or =
     (below4 (AtDigits 1) refl refl refl refl)
     (below4 (AtDigits 2) refl refl refl refl)
     (below4 (AtDigits 3) refl refl refl refl)
+
+pub join-digit-lt : (x y : ℕ) → x < 4 → y < 4 → joinDigit x y < 4
+join-digit-lt x y h k = subst (λ (z : ℕ). z < 4) (digit-or x h y k) (or-lt 2 x y h k)
+
+pub join-lt : (p a b : ℕ) → join p a b < 4 ^ p
+unfolding join
+join-lt zero a b = omega arith
+join-lt (suc p) a b = omega (arith, join-lt p (a / 4) (b / 4), join-digit-lt (a % 4) (b % 4) (mod-lt a (lit< tt)) (mod-lt b (lit< tt)))
+
+-- the empty label yields to any
+pub join-none : (p b : ℕ) → b < 4 ^ p → join p 0 b ≡ b
+unfolding join joinDigit
+join-none zero b h = omega arith
+join-none (suc p) b h = let e : join p 0 (b / 4) ≡ b / 4 = join-none p (b / 4) (quarter-lt p b h) in omega arith
 
 -- joining two labels is `|`
 pub or-join : (p a b : ℕ) → a < 4 ^ p → b < 4 ^ p → bitOr a b ≡ join p a b
