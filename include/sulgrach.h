@@ -24,9 +24,9 @@
  *      2   a size, or the number of cells, is out of bounds
  *      3   an observing point is the first alarm, no point of the plan, or used twice
  *      4   a link has an end that is no point, equal ends, an end that is the first alarm, observing or used twice, or
- *          a wrong duration
- *      5   an edge has an end that is no point, equal ends, a weight out of bounds, a wrong label, or a last byte that
- *          is not 0
+ *          durations that are not 0 < least < most <= SULGRACH_SECONDS
+ *      5   an edge has an end that is no point, equal ends, a weight beyond SULGRACH_SECONDS either way, a wrong label,
+ *          or a last byte that is not 0
  *      6   a lent table is shorter than the plan's cells
  *      7   the listing has over 4,096 lines or is longer than the output      (sulgrach_list)
  *      8   the bytes are not laid out as a listing of 1 to 4,096 lines        (sulgrach_replay)
@@ -44,21 +44,28 @@
 extern "C" {
 #endif
 
+/* Goes up with each version that changes a call's parameters; the first, which did not name it, is 1. Since 2 the limit and
+ * the numbers of an answer are 64 bits wide. */
+#define SULGRACH_INTERFACE 2
+
 #define SULGRACH_KEPT 0
 #define SULGRACH_BROKEN 1
 #define SULGRACH_SPENT 2
 #define SULGRACH_REFUSED 100
 
+/* No time of an accepted plan is longer, in seconds. */
+#define SULGRACH_SECONDS 28800
+
 /* No plan has more cells, so tables of this length are never too short. */
 #define SULGRACH_CELLS 16384
 
 /* With this limit no accepted plan is spent. */
-#define SULGRACH_ROUNDS 1946435585
+#define SULGRACH_ROUNDS UINT64_C(15571369985)
 
 /* No listing is longer, in bytes. */
 #define SULGRACH_LISTING 57346
 
-/* Each call takes less stack than this, in bytes. Measured, not proved: a call itself took up to 1,920, and the first of
+/* Each call takes less stack than this, in bytes. Measured, not proved: a call itself took up to 1,936, and the first of
  * a program up to 4,552 where the dynamic linker looks for memset only then (-z lazy). */
 #define SULGRACH_STACK 8192
 
@@ -73,8 +80,8 @@ uint32_t sulgrach_check(
     const uint8_t *plan, size_t plan_length,
     uint32_t *first, size_t first_length,
     uint32_t *second, size_t second_length,
-    uint32_t limit,
-    uint32_t *rounds, size_t rounds_length);
+    uint64_t limit,
+    uint64_t *rounds, size_t rounds_length);
 
 /* The check, and where the plan is broken the listing that shows it; the answer is a code. What is written:
  *
@@ -93,10 +100,10 @@ uint32_t sulgrach_list(
     const uint8_t *plan, size_t plan_length,
     uint32_t *first, size_t first_length,
     uint32_t *second, size_t second_length,
-    uint32_t limit,
+    uint64_t limit,
     uint16_t *index, size_t index_length,
     uint8_t *out, size_t out_length,
-    uint32_t *numbers, size_t numbers_length);
+    uint64_t *numbers, size_t numbers_length);
 
 /* Replay of a listing: 0 where its lines derive from the plan that the first alarm waits for itself, so that no panel can
  * keep it; else the reason, as N and not as 100+N: 1 to 5 for the plan, 8 to 11 for the listing. Nothing is written. */

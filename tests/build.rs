@@ -7,9 +7,11 @@ use std::env;
 use std::fs;
 use std::path::{Path, PathBuf};
 use std::process;
+use std::str::FromStr;
 
 fn main() {
     link_library();
+    link_earlier_library();
     declare_header();
 }
 
@@ -49,6 +51,31 @@ fn library_directory() -> PathBuf {
     }
 }
 
+/// For the benchmark: the check of an earlier version's library, as
+/// `earlier_check`. All its other names are hidden, since they are the library's
+/// too.
+fn link_earlier_library() {
+    println!("cargo:rerun-if-env-changed=SULGRACH_EARLIER_LIB_DIR");
+    println!("cargo:rustc-check-cfg=cfg(earlier_library)");
+    let Some(directory) = env::var_os("SULGRACH_EARLIER_LIB_DIR") else { return };
+    let archive = PathBuf::from(directory).join("libinterface.a").display().to_string();
+    println!("cargo:rerun-if-changed={archive}");
+    let object = out_directory().join("earlier.o").display().to_string();
+    run("ld", &["-r", "--whole-archive", &archive, "-o", &object]);
+    run("objcopy", &["--redefine-sym", "sulgrach_check=earlier_check", &object]);
+    run("objcopy", &["--keep-global-symbol=earlier_check", &object]);
+    println!("cargo:rustc-link-arg-bin=benchmark={object}");
+    println!("cargo:rustc-cfg=earlier_library");
+}
+
+fn run(program: &str, words: &[&str]) {
+    match process::Command::new(program).args(words).status() {
+        Ok(status) if status.success() => (),
+        Ok(status) => fail(&format!("{program}: {status}")),
+        Err(error) => fail(&format!("{program}: {error}")),
+    }
+}
+
 // ------------------------------------------------------------ the header
 
 fn declare_header() {
@@ -58,8 +85,11 @@ fn declare_header() {
     let text =
         fs::read_to_string(&path).unwrap_or_else(|error| fail(&format!("{}: {error}", path.display())));
     let header = read_header(&text).unwrap_or_else(|reason| fail(&format!("{}: {reason}", path.display())));
-    let out = PathBuf::from(env::var_os("OUT_DIR").expect("cargo names a directory for output"));
-    write(&out.join("header.rs"), &declarations(&header));
+    write(&out_directory().join("header.rs"), &declarations(&header));
+}
+
+fn out_directory() -> PathBuf {
+    PathBuf::from(env::var_os("OUT_DIR").expect("cargo names a directory for output"))
 }
 
 fn write(path: &Path, text: &str) {
@@ -69,8 +99,15 @@ fn write(path: &Path, text: &str) {
 /// What the header says: its constants, and its prototypes as Rust declares
 /// them.
 struct Header {
-    constants: Vec<(String, u32)>,
+    constants: Vec<Constant>,
     calls: Vec<(String, String)>,
+}
+
+/// A constant, with the type that Rust gives it.
+struct Constant {
+    name: String,
+    kind: &'static str,
+    value: u64,
 }
 
 fn read_header(text: &str) -> Result<Header, String> {
@@ -102,7 +139,7 @@ fn without_comments(text: &str) -> Result<String, String> {
 
 /// The constants, and all lines that are no directive. Lines for C++ alone
 /// are left out.
-fn read_directives(text: &str) -> Result<(Vec<(String, u32)>, String), String> {
+fn read_directives(text: &str) -> Result<(Vec<Constant>, String), String> {
     let mut constants = Vec::new();
     let mut rest = String::new();
     let mut for_c_plus_plus = false;
@@ -117,7 +154,7 @@ fn read_directives(text: &str) -> Result<(Vec<(String, u32)>, String), String> {
             ["#ifndef", "SULGRACH_H"] if !guarded => guarded = true,
             ["#endif"] if guarded => guarded = false,
             ["#define", "SULGRACH_H"] | ["#include", "<stddef.h>" | "<stdint.h>"] => (),
-            ["#define", name, value] => constants.push((known_name(name)?, read_number(value)?)),
+            ["#define", name, value] => constants.push(read_constant(name, value)?),
             [first, ..] if first.starts_with('#') => return Err(format!("unknown directive: {line}")),
             _ => {
                 rest += line;
@@ -139,13 +176,21 @@ fn known_name(name: &str) -> Result<String, String> {
     Ok(name.into())
 }
 
-/// A decimal number. C reads a leading 0 as octal, so there is none.
-fn read_number(text: &str) -> Result<u32, String> {
-    let number: u32 = text.parse().map_err(|_| format!("unknown form of a number: {text}"))?;
-    if number.to_string() != text {
-        return Err(format!("unknown form of a number: {text}"));
-    }
-    Ok(number)
+/// `N`, of 32 bits, or `UINT64_C(N)`.
+fn read_constant(name: &str, text: &str) -> Result<Constant, String> {
+    let wide = text.strip_prefix("UINT64_C(").and_then(|rest| rest.strip_suffix(')'));
+    let (kind, value) = match wide {
+        Some(number) => ("u64", read_number(number)?),
+        None => ("u32", read_number::<u32>(text)?.into()),
+    };
+    Ok(Constant { name: known_name(name)?, kind, value })
+}
+
+/// A decimal number that fits its type. C reads a leading 0 as octal, so there
+/// is none.
+fn read_number<N: FromStr + ToString>(text: &str) -> Result<N, String> {
+    let number = text.parse().ok().filter(|number: &N| number.to_string() == text);
+    number.ok_or_else(|| format!("unknown form of a number: {text}"))
 }
 
 /// `uint32_t NAME(TYPE NAME, ...)`: the name, and its declaration in Rust.
@@ -178,6 +223,7 @@ fn number_type(name: &str) -> Result<&'static str, String> {
         "uint8_t" => Ok("u8"),
         "uint16_t" => Ok("u16"),
         "uint32_t" => Ok("u32"),
+        "uint64_t" => Ok("u64"),
         "size_t" => Ok("usize"),
         _ => Err(format!("unknown type: {name}")),
     }
@@ -185,13 +231,16 @@ fn number_type(name: &str) -> Result<&'static str, String> {
 
 fn declarations(header: &Header) -> String {
     let mut text = String::new();
-    for (name, value) in &header.constants {
-        text += &format!("pub const {name}: u32 = {value};\n");
+    for Constant { name, kind, value } in &header.constants {
+        text += &format!("pub const {name}: {kind} = {value};\n");
     }
-    let list: Vec<String> =
-        header.constants.iter().map(|(name, _)| format!("(\"{name}\", {name})")).collect();
+    let list: Vec<String> = header
+        .constants
+        .iter()
+        .map(|Constant { name, value, .. }| format!("(\"{name}\", {value})"))
+        .collect();
     text += "/// All constants of the header, in its order.\n";
-    text += &format!("pub const CONSTANTS: &[(&str, u32)] = &[{}];\n", list.join(", "));
+    text += &format!("pub const CONSTANTS: &[(&str, u64)] = &[{}];\n", list.join(", "));
     let list: Vec<String> = header.calls.iter().map(|(name, _)| format!("\"{name}\"")).collect();
     text += "/// All calls of the header, in its order.\n";
     text += &format!("pub const CALLS: &[&str] = &[{}];\n", list.join(", "));

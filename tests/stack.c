@@ -14,7 +14,8 @@
 #define STACK (1024 * 1024)
 #define PATTERN 0xA5
 
-static uint32_t first[SULGRACH_CELLS], second[SULGRACH_CELLS], numbers[2], limit, code;
+static uint64_t numbers[2], limit;
+static uint32_t first[SULGRACH_CELLS], second[SULGRACH_CELLS], code;
 static uint16_t lines[SULGRACH_CELLS];
 static uint8_t plan[801], out[SULGRACH_LISTING], stack[STACK];
 static size_t length;
@@ -31,7 +32,7 @@ static void list(void) {
 
 /* Of the listing that was made before. */
 static void replay(void) {
-    code = sulgrach_replay(plan, length, out, numbers[1]);
+    code = sulgrach_replay(plan, length, out, (size_t)numbers[1]);
 }
 
 /* Not by memset: the call is to be the first to use it, since finding it then takes stack too. */
@@ -64,7 +65,7 @@ static size_t measure(void call(void)) {
 int main(int count, char **words) {
     if (count < 4)
         return 2;
-    limit = (uint32_t)strtoul(words[2], NULL, 10);
+    limit = strtoull(words[2], NULL, 10);
     for (int i = 3; i < count; i++) {
         size_t used;
         FILE *file = fopen(words[i], "rb");

@@ -3,7 +3,7 @@
 
 use crate::generate::{hex, Random};
 use crate::library;
-use crate::second::{self, Answer, Line, Listed, Refusal, Verdict};
+use crate::second::{self, Answer, Line, Listed, Refusal, Verdict, EVERY_PLAN};
 use std::cell::Cell;
 use std::fmt::Display;
 
@@ -56,8 +56,19 @@ pub fn print_calls(test: &str) {
 
 // ------------------------------------------------------------- comparing
 
+/// Limits that do not fit 32 bits, for a plan that ends after so many rounds. Of
+/// the last three, 32 bits would leave 0, 1 and R − 1.
+pub fn wide_limits(rounds: u64) -> [u64; 5] {
+    [EVERY_PLAN, u64::MAX, 1 << 32, (1 << 32) + 1, (1 << 32) + rounds - 1]
+}
+
 /// The output that serves every listing.
 pub const LONGEST_LISTING: usize = 2 + 14 * second::MOST_LINES;
+
+/// Numbers with all 64 bits dirty, so that a half left as it was is seen.
+fn dirty_numbers(random: &mut Random, length: usize) -> Vec<u64> {
+    (0..length).map(|_| random.number()).collect()
+}
 
 fn dirty_words(random: &mut Random, length: usize) -> Vec<u32> {
     (0..length).map(|_| random.number() as u32).collect()
@@ -89,11 +100,11 @@ fn same<T: PartialEq + Display>(of: &str, library: &[T], second: &[T], case: &dy
 }
 
 /// Checks a plan both ways and compares the answer and all lent memory.
-pub fn check(random: &mut Random, plan: &[u8], lengths: Lengths, limit: u32, sample: &dyn Display) {
+pub fn check(random: &mut Random, plan: &[u8], lengths: Lengths, limit: u64, sample: &dyn Display) {
     let case = format!("check, limit {limit}, {lengths:?}, {sample}");
     let [first, second] = [lengths.first, lengths.second].map(|length| dirty_words(random, length));
     let count = random.below(4);
-    let rounds = dirty_words(random, count);
+    let rounds = dirty_numbers(random, count);
 
     let (mut first_expected, mut second_expected, mut rounds_expected) =
         (first.clone(), second.clone(), rounds.clone());
@@ -125,7 +136,7 @@ pub fn list(
     random: &mut Random,
     plan: &[u8],
     lengths: Lengths,
-    limit: u32,
+    limit: u64,
     sample: &dyn Display,
 ) -> Option<Vec<u8>> {
     let case = format!("listing, limit {limit}, {lengths:?}, {sample}");
@@ -133,7 +144,7 @@ pub fn list(
     let index = dirty_halves(random, lengths.index);
     let output = dirty_bytes(random, lengths.output);
     let count = random.below(4);
-    let numbers = dirty_words(random, count);
+    let numbers = dirty_numbers(random, count);
 
     let (mut first_expected, mut second_expected, mut index_expected) =
         (first.clone(), second.clone(), index.clone());
@@ -183,13 +194,13 @@ fn listing_code(expected: &Result<Listed, Refusal>) -> u32 {
 }
 
 /// The numbers as they are to be after the call: rounds, then length.
-fn listing_numbers(expected: &Result<Listed, Refusal>, before: &[u32]) -> Vec<u32> {
+fn listing_numbers(expected: &Result<Listed, Refusal>, before: &[u64]) -> Vec<u64> {
     let mut numbers = before.to_vec();
     if let (Ok(listed), Some(rounds)) = (expected, numbers.first_mut()) {
         *rounds = listed.answer.rounds;
     }
     if let (Some(lines), Some(length)) = (broken_lines(expected), numbers.get_mut(1)) {
-        *length = second::listing_bytes(lines.len()) as u32;
+        *length = second::listing_bytes(lines.len()) as u64;
     }
     numbers
 }

@@ -3,7 +3,7 @@
 pub mod faults;
 pub mod listings;
 
-use crate::second::{self, Edge, Link, Verdict, MOST_CELLS};
+use crate::second::{self, Edge, Link, Verdict, MOST_CELLS, MOST_SECONDS};
 use std::fmt;
 
 // ---------------------------------------------------------------- random
@@ -53,7 +53,8 @@ impl Random {
 
 // ----------------------------------------------------------------- plans
 
-/// The kinds of accepted plans.
+/// The kinds of accepted plans, as they are before many of them are given long
+/// timers.
 #[derive(Clone, Copy, Debug, PartialEq, Eq)]
 pub enum Class {
     /// Two to four points and tiny weights, where bounds meet exactly.
@@ -93,8 +94,28 @@ pub fn hex(bytes: &[u8]) -> String {
     bytes.iter().map(|byte| format!("{byte:02x}")).collect()
 }
 
-/// The plan of a class and a seed.
+/// The plan of a class and a seed. Many have long timers.
 pub fn sample(class: Class, seed: u64) -> Sample {
+    let (mut random, draft) = first_draft(class, seed);
+    let draft = match class {
+        Class::Small if random.chance(30) => lengthened(&mut random, &draft),
+        Class::Decisive | Class::Mixed if random.chance(60) => lengthened(&mut random, &draft),
+        Class::Slow | Class::Dense if random.chance(60) => {
+            let scaled = scaled(&mut random, &draft);
+            varied(&mut random, &scaled)
+        }
+        _ => draft,
+    };
+    Sample { class, seed, plan: draft.bytes() }
+}
+
+/// The plan of a class and a seed before its timers are made long. The benchmark
+/// takes these, so that a library of before can run them too.
+pub fn plan_before_lengthening(class: Class, seed: u64) -> Vec<u8> {
+    first_draft(class, seed).1.bytes()
+}
+
+fn first_draft(class: Class, seed: u64) -> (Random, Draft) {
     // Each class has numbers of its own.
     let mut random = Random::new(seed.wrapping_mul(CLASSES.len() as u64) + class as u64);
     let mut draft = match class {
@@ -106,7 +127,7 @@ pub fn sample(class: Class, seed: u64) -> Sample {
         Class::Dense => dense(&mut random),
     };
     random.shuffle(&mut draft.edges);
-    Sample { class, seed, plan: draft.bytes() }
+    (random, draft)
 }
 
 /// So many plans of a class, with seeds counted from `seed`.
@@ -143,6 +164,12 @@ impl Draft {
             bytes.extend([edge.label, 0]);
         }
         bytes
+    }
+
+    /// The largest of all weights, either way, and of all durations.
+    fn longest(&self) -> i64 {
+        let weights = self.edges.iter().map(|edge| edge.weight.abs());
+        weights.chain(self.links.iter().map(|link| link.most)).max().unwrap_or(0)
     }
 
     /// Adds an edge if the plan has room for it.
@@ -308,7 +335,7 @@ fn any_edge(random: &mut Random, draft: &mut Draft, longest: i64, room: i64) {
 /// Takes away, one by one, edges and activations that make Z wait within so
 /// many rounds. What is left is kept, or broken later and for better reasons.
 /// There must be three points at least.
-fn loosen(random: &mut Random, draft: &mut Draft, rounds: u32) {
+fn loosen(random: &mut Random, draft: &mut Draft, rounds: u64) {
     while let Some((rule, row)) = why_broken(random, draft, rounds) {
         let edges = draft.edges.len();
         if rule == 2 {
@@ -326,7 +353,7 @@ fn loosen(random: &mut Random, draft: &mut Draft, rounds: u32) {
 }
 
 /// A rule and row that make Z wait within so many rounds, if any do.
-fn why_broken(random: &mut Random, draft: &Draft, rounds: u32) -> Option<(u8, usize)> {
+fn why_broken(random: &mut Random, draft: &Draft, rounds: u64) -> Option<(u8, usize)> {
     let plan = second::read(&draft.bytes()).expect("a draft is an accepted plan");
     let mut before = Vec::new();
     let answer = second::run(&plan, rounds, |table, _| before = table.to_vec());
@@ -340,6 +367,92 @@ fn why_broken(random: &mut Random, draft: &Draft, rounds: u32) -> Option<(u8, us
         }
     });
     Some(random.pick(&reasons))
+}
+
+// ----------------------------------------------------------- long timers
+
+/// The most that a weight or a duration could be before timers became long.
+pub const MOST_SECONDS_BEFORE: i64 = 3_600;
+
+/// The plan with long timers, all of them or those between some points and the
+/// others. Where that makes a loop gain little a turn, with a far horizon, the
+/// times are only multiplied, which takes no more rounds than before.
+fn lengthened(random: &mut Random, draft: &Draft) -> Draft {
+    const ROUNDS: u64 = 100;
+    let scaled = scaled(random, draft);
+    let long = if random.chance(40) { delayed(random, draft) } else { varied(random, &scaled) };
+    let plan = second::read(&long.bytes()).expect("a draft is an accepted plan");
+    match second::run(&plan, ROUNDS, |_, _| ()).verdict {
+        Verdict::Spent => scaled,
+        _ => long,
+    }
+}
+
+/// All times multiplied, the longest to more than timers could be before. All
+/// waits are then multiplied too, and verdict and rounds are the same.
+fn scaled(random: &mut Random, draft: &Draft) -> Draft {
+    let mut scaled = draft.clone();
+    let longest = draft.longest();
+    if longest > 0 {
+        let (least, most) = (MOST_SECONDS_BEFORE / longest + 1, MOST_SECONDS / longest);
+        let any = random.between(least, most);
+        let factor = random.pick(&[least, most, any]);
+        scaled.links.iter_mut().for_each(|link| {
+            link.least *= factor;
+            link.most *= factor;
+        });
+        scaled.edges.iter_mut().for_each(|edge| edge.weight *= factor);
+    }
+    scaled
+}
+
+/// Some times changed by a second or two, so that what was just kept may be
+/// broken by a second.
+fn varied(random: &mut Random, draft: &Draft) -> Draft {
+    let mut varied = draft.clone();
+    for link in &mut varied.links {
+        let (least, most) = (link.least + any_change(random), link.most + any_change(random));
+        if 0 < least && least < most && most <= MOST_SECONDS {
+            (link.least, link.most) = (least, most);
+        }
+    }
+    for edge in &mut varied.edges {
+        edge.weight = (edge.weight + any_change(random)).clamp(-MOST_SECONDS, MOST_SECONDS);
+    }
+    varied
+}
+
+/// Seconds to add, most often none.
+fn any_change(random: &mut Random) -> i64 {
+    random.pick(&[0, 0, 0, 0, 0, -2, -1, -1, 1, 1, 2])
+}
+
+/// Some points come long after the others; times among the former and among the
+/// latter stay short.
+fn delayed(random: &mut Random, draft: &Draft) -> Draft {
+    let mut late: Vec<bool> = (0..draft.points).map(|point| point > 0 && random.chance(50)).collect();
+    late[random.between(1, draft.points as i64 - 1) as usize] = true;
+    // A link's end comes after its activation.
+    for _ in 0..draft.links.len() {
+        draft.links.iter().for_each(|link| late[link.end] |= late[link.activation]);
+    }
+    let delay = random.between(MOST_SECONDS_BEFORE + 1, MOST_SECONDS - draft.longest());
+    let mut delayed = draft.clone();
+    for link in &mut delayed.links {
+        if late[link.end] && !late[link.activation] {
+            link.least += delay;
+            link.most += delay;
+        }
+    }
+    for edge in &mut delayed.edges {
+        match (late[edge.from], late[edge.to]) {
+            (false, true) => edge.weight += delay,
+            (true, false) => edge.weight -= delay,
+            _ => (),
+        }
+    }
+    (1..draft.points).filter(|&point| late[point]).for_each(|point| delayed.after(point, 0, delay, 0));
+    delayed
 }
 
 // --------------------------------------------------------------- classes
@@ -415,9 +528,14 @@ fn extreme(random: &mut Random) -> Draft {
     let p = random.below(3);
     let k = random.below(4);
     let n = random.between(8, 32) as usize;
-    let mut draft = frame(random, n, p, k, 1800);
+    let mut draft = frame(random, n, p, k, MOST_SECONDS / 2);
     for link in &mut draft.links {
-        (link.least, link.most) = random.pick(&[(1, 2), (1, 3600), (3599, 3600), (link.least, link.most)]);
+        (link.least, link.most) = random.pick(&[
+            (1, 2),
+            (1, MOST_SECONDS),
+            (MOST_SECONDS - 1, MOST_SECONDS),
+            (link.least, link.most),
+        ]);
     }
     // In half of the plans every gap counts from Z, so that few are broken by
     // a loop.
@@ -426,12 +544,12 @@ fn extreme(random: &mut Random) -> Draft {
         let from = draft.any_point(random);
         let to = draft.other_point(random, from);
         let label = draft.any_label(random, 60);
-        let gap = random.pick(&[1, 3599, 3600]);
+        let gap = random.pick(&[1, MOST_SECONDS - 1, MOST_SECONDS]);
         match random.below(3) {
             0 if from_z => draft.after(from, 0, gap, label),
             0 => draft.after(from, to, gap, label),
-            1 => draft.within(from, to, random.pick(&[0, 3599, 3600]), label),
-            _ => draft.within(from, to, random.between(0, 3600), label),
+            1 => draft.within(from, to, random.pick(&[0, MOST_SECONDS - 1, MOST_SECONDS]), label),
+            _ => draft.within(from, to, random.between(0, MOST_SECONDS), label),
         }
     }
     let rounds = random.pick(&[0, 2, 4, 20]);
@@ -517,7 +635,7 @@ fn dense(random: &mut Random) -> Draft {
     draft
 }
 
-// ------------------------------------------------ plans of the benchmark
+// ------------------------------- plans of the benchmark, and slow cycles
 
 /// A plan of a typical size: 12 points, 2 propositions, 2 links, 40 edges.
 /// Even seeds make plans that are kept or broken late.
@@ -554,4 +672,10 @@ pub fn slow_cycle(points: usize, turn: usize, rounds: i64, both: bool) -> Vec<u8
         draft.after(1, 0, 1, 1);
     }
     draft.bytes()
+}
+
+/// Cycles of more rounds than 16 bits count, and of more than plans of so many
+/// points took before timers became long.
+pub fn long_cycles() -> [Vec<u8>; 2] {
+    [slow_cycle(5, 2, 80_000, false), slow_cycle(6, 3, 80_000, true)]
 }

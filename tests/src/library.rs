@@ -12,7 +12,7 @@ use header::{sulgrach_check, sulgrach_list, sulgrach_replay};
 // agree exactly, so that a `const` too many or too few in the header does not
 // go unseen.
 type Check =
-    unsafe extern "C" fn(*const u8, usize, *mut u32, usize, *mut u32, usize, u32, *mut u32, usize) -> u32;
+    unsafe extern "C" fn(*const u8, usize, *mut u32, usize, *mut u32, usize, u64, *mut u64, usize) -> u32;
 type List = unsafe extern "C" fn(
     *const u8,
     usize,
@@ -20,12 +20,12 @@ type List = unsafe extern "C" fn(
     usize,
     *mut u32,
     usize,
-    u32,
+    u64,
     *mut u16,
     usize,
     *mut u8,
     usize,
-    *mut u32,
+    *mut u64,
     usize,
 ) -> u32;
 type Replay = unsafe extern "C" fn(*const u8, usize, *const u8, usize) -> u32;
@@ -47,7 +47,7 @@ pub fn replay(plan: &[u8], listing: &[u8]) -> u32 {
 }
 
 /// The code of the answer; the count of rounds goes into `rounds[0]`.
-pub fn check(plan: &[u8], first: &mut [u32], second: &mut [u32], limit: u32, rounds: &mut [u32]) -> u32 {
+pub fn check(plan: &[u8], first: &mut [u32], second: &mut [u32], limit: u64, rounds: &mut [u64]) -> u32 {
     // SAFETY: the buffers live through the call, and the ones written to are
     // exclusively borrowed and apart from each other.
     unsafe {
@@ -71,10 +71,10 @@ pub fn list(
     plan: &[u8],
     first: &mut [u32],
     second: &mut [u32],
-    limit: u32,
+    limit: u64,
     index: &mut [u16],
     out: &mut [u8],
-    numbers: &mut [u32],
+    numbers: &mut [u64],
 ) -> u32 {
     // SAFETY: as for `check`.
     unsafe {

@@ -7,7 +7,7 @@
 use self::rounds::Answer;
 
 // The check's answer as a code, and its rounds: 0 kept, 1 broken, 2 spent, 100 + N refused with number N and no rounds.
-pub fn check(plan: &[u8], first: &mut [u32], second: &mut [u32], limit: u32) -> (u32, u32) {
+pub fn check(plan: &[u8], first: &mut [u32], second: &mut [u32], limit: u64) -> (u32, u64) {
     match rounds::check(plan, first, second, limit) {
         Answer::Kept(made) => (0, made),
         Answer::Broken(made) => (1, made),
@@ -42,6 +42,9 @@ mod plan {
     pub use self::numbers::cell_at;
     pub use self::numbers::lesser;
     pub use self::numbers::widen_cell;
+
+    // No duration and no weight, either way, is longer, in seconds.
+    pub const MOST_SECONDS: u64 = 28800;
 
     // M and the horizon.
     mod bounds {
@@ -295,6 +298,7 @@ mod plan_refusal {
         use super::super::plan::plain_marks;
         use super::super::plan::points;
         use super::super::plan::propositions;
+        use super::super::plan::MOST_SECONDS;
 
         // The numbers of the refusals.
         const ACCEPTED: u32 = 0;
@@ -447,7 +451,7 @@ mod plan_refusal {
             if y <= s {
                 return false;
             }
-            y <= 3600
+            y <= MOST_SECONDS
         }
 
         fn edges_fit(plan: &[u8]) -> bool {
@@ -484,10 +488,10 @@ mod plan_refusal {
             if x == y {
                 return false;
             }
-            if 3600 < edge_up(plan, i) {
+            if MOST_SECONDS < edge_up(plan, i) {
                 return false;
             }
-            edge_down(plan, i) <= 3600
+            edge_down(plan, i) <= MOST_SECONDS
         }
 
         // A label with no digit at p or above is below 4^p.
@@ -1222,9 +1226,9 @@ mod rounds {
 
     // What the check answers; specs/Outcomes says what each stands for.
     pub enum Answer {
-        Kept(u32),
-        Broken(u32),
-        Spent(u32),
+        Kept(u64),
+        Broken(u64),
+        Spent(u64),
         Refused(u32),
     }
 
@@ -1278,7 +1282,7 @@ mod rounds {
         }
 
         // The answer of the round that stopped.
-        fn ending(table: &[u32], width: usize, made: u32) -> Answer {
+        fn ending(table: &[u32], width: usize, made: u64) -> Answer {
             if first_alarm_waits(table, width) {
                 return Answer::Broken(made);
             }
@@ -1292,7 +1296,7 @@ mod rounds {
             horizon: u64,
             first: &mut [u32],
             second: &mut [u32],
-            limit: u32,
+            limit: u64,
         ) -> Answer {
             let width = point_width(plan);
             let mut sources = [0usize; 32];
@@ -1317,7 +1321,7 @@ mod rounds {
             horizon: u64,
             first: &mut [u32],
             second: &mut [u32],
-            limit: u32,
+            limit: u64,
         ) -> Answer {
             let end = cells(plan);
             copy_cells(first, second, end);
@@ -1325,7 +1329,7 @@ mod rounds {
         }
 
         // The check of an accepted plan with tables that are long enough: rounds from zeros.
-        fn checked(plan: &[u8], first: &mut [u32], second: &mut [u32], limit: u32) -> Answer {
+        fn checked(plan: &[u8], first: &mut [u32], second: &mut [u32], limit: u64) -> Answer {
             let end = cells(plan);
             clear_cells(first, end);
             let marks = plain_marks();
@@ -1334,7 +1338,7 @@ mod rounds {
         }
 
         // Kept or broken with R, spent with the limit, or refused with the refusal's number; refused, the tables are untouched.
-        pub fn check(plan: &[u8], first: &mut [u32], second: &mut [u32], limit: u32) -> Answer {
+        pub fn check(plan: &[u8], first: &mut [u32], second: &mut [u32], limit: u64) -> Answer {
             let number = refusal(plan);
             if number != 0 {
                 return Answer::Refused(number);

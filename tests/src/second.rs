@@ -2,10 +2,16 @@
 //!
 //! It was made apart from the library and shares nothing with it. Each part
 //! is meant to be held beside the sentence of the document that it quotes;
-//! where the two part, the document is right. Nothing here is made to be fast.
+//! where the two part, the document is right. A sentence of the scope that a
+//! change request restates is quoted from the request. Nothing here is made to
+//! be fast.
 
-/// "1,946,435,585 rounds serve every plan."
-pub const EVERY_PLAN: u32 = 1_946_435_585;
+/// "Weights now run from −28,800 to 28,800, and y goes up to 28,800." (1/13)
+pub const MOST_SECONDS: i64 = 28_800;
+
+/// "The round limit and count become 64 bits wide, since the limit that serves
+/// every plan is now 15,571,369,985." (1/13)
+pub const EVERY_PLAN: u64 = 15_571_369_985;
 
 /// The most cells that a plan may have.
 pub const MOST_CELLS: usize = 16_384;
@@ -196,7 +202,8 @@ fn observing_points_right(n: usize, observing: &[usize]) -> bool {
 }
 
 /// Refusal 4: "link: end ≥ n, A = C, C = 0, C observing, C used twice, s or y
-/// wrong", where "0 < s < y ≤ 3,600". Either end may be the one that is ≥ n.
+/// wrong"; "0 < s < y", and "y goes up to 28,800". Either end may be the one
+/// that is ≥ n.
 fn links_right(n: usize, observing: &[usize], links: &[Link]) -> bool {
     links.iter().enumerate().all(|(i, link)| {
         let used_before = links[..i].iter().any(|before| before.end == link.end);
@@ -208,17 +215,18 @@ fn links_right(n: usize, observing: &[usize], links: &[Link]) -> bool {
             && !used_before
             && 0 < link.least
             && link.least < link.most
-            && link.most <= 3600
+            && link.most <= MOST_SECONDS
     })
 }
 
 /// Refusal 5, but for the last byte: "edge: end ≥ n, equal ends, u out of
-/// bounds, label not plain or with a digit at p or above".
+/// bounds, label not plain or with a digit at p or above". "Weights now run
+/// from −28,800 to 28,800."
 fn edge_right(n: usize, p: usize, edge: &Edge) -> bool {
     edge.from < n
         && edge.to < n
         && edge.from != edge.to
-        && (-3600..=3600).contains(&edge.weight)
+        && (-MOST_SECONDS..=MOST_SECONDS).contains(&edge.weight)
         && plain(edge.label)
         && (p..4).all(|j| digit(edge.label, j) == 0)
 }
@@ -449,15 +457,15 @@ pub enum Verdict {
 #[derive(Clone, Debug, PartialEq, Eq)]
 pub struct Answer {
     pub verdict: Verdict,
-    pub rounds: u32,
+    pub rounds: u64,
     pub table: Vec<u32>,
 }
 
 /// "R is the least r ≥ 1 where Z has a cell above 0 or table(r) = table(r−1).
 /// If R is at most the limit it answers kept or broken with R; otherwise
-/// spent, with the limit as count." `watch` sees table(r−1) and table(r) of
-/// every round.
-pub fn run(plan: &Plan, limit: u32, mut watch: impl FnMut(&[u32], &[u32])) -> Answer {
+/// spent, with the limit as count." "The round limit and count become 64 bits
+/// wide" (1/13). `watch` sees table(r−1) and table(r) of every round.
+pub fn run(plan: &Plan, limit: u64, mut watch: impl FnMut(&[u32], &[u32])) -> Answer {
     let mut table = vec![0; plan.cells()];
     for round in 1..=limit {
         let next = next_table(plan, &table);
@@ -477,7 +485,7 @@ pub fn run(plan: &Plan, limit: u32, mut watch: impl FnMut(&[u32], &[u32])) -> An
 /// The check: "both tables then hold that round's table in their first cells,
 /// later entries untouched"; refusal 6 is "a lent table shorter than the
 /// cells".
-pub fn check(bytes: &[u8], first: &mut [u32], second: &mut [u32], limit: u32) -> Result<Answer, Refusal> {
+pub fn check(bytes: &[u8], first: &mut [u32], second: &mut [u32], limit: u64) -> Result<Answer, Refusal> {
     let plan = read(bytes)?;
     if first.len() < plan.cells() || second.len() < plan.cells() {
         return Err(6);
@@ -500,7 +508,7 @@ pub struct Listed {
 
 /// "The listing of a broken plan has a line for every cell raised in rounds 1
 /// to R−1, by round, then cell, and last the lowest Z cell raised in round R."
-pub fn run_and_list(plan: &Plan, limit: u32) -> Listed {
+pub fn run_and_list(plan: &Plan, limit: u64) -> Listed {
     let mut lines = Vec::new();
     let answer = run(plan, limit, |table, next| {
         let raised = (0..plan.cells()).filter(|&cell| next[cell] > table[cell]);
@@ -539,7 +547,7 @@ pub fn list(
     bytes: &[u8],
     first: &mut [u32],
     second: &mut [u32],
-    limit: u32,
+    limit: u64,
     index: &mut [u16],
     output: usize,
 ) -> Result<Listed, Refusal> {

@@ -1,6 +1,7 @@
 //! What generated plans exercise: verdicts, rounds, and how often each rule
 //! raises a cell or decides the answer.
 
+use crate::generate::MOST_SECONDS_BEFORE;
 use crate::second::{self, Plan, Verdict};
 
 /// Counts over some plans. The arrays go by rule; entry 0 is unused.
@@ -9,11 +10,13 @@ pub struct Tally {
     pub plans: usize,
     /// Plans with links and with propositions.
     pub both: usize,
+    /// Plans with a long timer.
+    pub long: usize,
     pub kept: usize,
     pub broken: usize,
     pub spent: usize,
     /// The count of rounds of each plan.
-    pub rounds: Vec<u32>,
+    pub rounds: Vec<u64>,
     pub most_lines: usize,
     /// Plans with a line whose label has an unknown digit.
     pub unknown: usize,
@@ -30,10 +33,11 @@ pub struct Tally {
 impl Tally {
     /// Counts a plan, run for at most `cap` rounds; `without` also runs it
     /// without each rule.
-    pub fn add(&mut self, plan: &Plan, cap: u32, without: bool) {
+    pub fn add(&mut self, plan: &Plan, cap: u64, without: bool) {
         let both = !plan.links.is_empty() && !plan.observing.is_empty();
         self.plans += 1;
         self.both += usize::from(both);
+        self.long += usize::from(has_long_timer(plan));
 
         let mut raises = [0; 7];
         let answer = second::run(plan, cap, |table, next| count_raises(plan, table, next, &mut raises));
@@ -60,6 +64,12 @@ impl Tally {
     }
 }
 
+/// Whether a library with the bound that timers had before would refuse it.
+pub fn has_long_timer(plan: &Plan) -> bool {
+    plan.links.iter().any(|link| link.most > MOST_SECONDS_BEFORE)
+        || plan.edges.iter().any(|edge| edge.weight.abs() > MOST_SECONDS_BEFORE)
+}
+
 /// Counts, by rule, the grounds on which cells were raised to their new wait.
 fn count_raises(plan: &Plan, table: &[u32], next: &[u32], raises: &mut [usize; 7]) {
     second::each_given(plan, &second::lines_held(plan, table), |ground, line| {
@@ -71,7 +81,7 @@ fn count_raises(plan: &Plan, table: &[u32], next: &[u32], raises: &mut [usize; 7
 }
 
 /// Verdict and table if one rule were left out.
-fn run_without(plan: &Plan, cap: u32, rule: u8) -> (Verdict, Vec<u32>) {
+fn run_without(plan: &Plan, cap: u64, rule: u8) -> (Verdict, Vec<u32>) {
     let mut table = vec![0; plan.cells()];
     for _ in 0..cap {
         let mut next = table.clone();

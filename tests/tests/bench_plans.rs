@@ -6,7 +6,7 @@ use sulgrach_tests::compare::{self, Lengths};
 use sulgrach_tests::generate::Random;
 use sulgrach_tests::second::{self, Verdict, EVERY_PLAN};
 
-const ANSWERS: [(&str, Verdict, u32, &[u32]); 10] = [
+const ANSWERS: [(&str, Verdict, u64, &[u32]); 10] = [
     ("c1", Verdict::Kept, 2, &[0, 3]),
     ("c2", Verdict::Broken, 2, &[1, 6]),
     ("c3", Verdict::Kept, 1, &[0, 0]),
@@ -42,8 +42,8 @@ fn answers_and_tables() {
         let answer = second::run(&plan, EVERY_PLAN, |_, _| ());
         assert_eq!((answer.verdict, answer.rounds, &answer.table[..]), (verdict, rounds, cells), "{name}");
 
-        let mut random = Random::new(rounds.into());
-        for limit in (0..=rounds + 1).chain([EVERY_PLAN, u32::MAX]) {
+        let mut random = Random::new(rounds);
+        for limit in (0..=rounds + 1).chain(compare::wide_limits(rounds)) {
             let lengths = Lengths::ample(&mut random, cells.len(), compare::LONGEST_LISTING);
             compare::check(&mut random, &bytes, lengths, limit, &name);
             compare::list(&mut random, &bytes, lengths, limit, &name);

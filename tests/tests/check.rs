@@ -1,8 +1,9 @@
 //! The check: verdict, count and both tables, at every limit that matters.
 
 use sulgrach_tests::compare::{self, Lengths};
-use sulgrach_tests::generate::{samples, Class, Random, Sample};
+use sulgrach_tests::generate::{hex, long_cycles, samples, Class, Random, Sample};
 use sulgrach_tests::second::{self, Verdict, EVERY_PLAN};
+use sulgrach_tests::tally::has_long_timer;
 use sulgrach_tests::times;
 
 #[test]
@@ -47,14 +48,33 @@ fn plans_near_the_most_cells() {
     compare::print_calls("plans_near_the_most_cells");
 }
 
-/// Compares at limits 0, 1, R − 1, R, and the one that serves every plan, at
-/// times the largest. A plan without an R up to `cap` is compared up to there.
-fn at_every_limit(sample: &Sample, cap: u32) {
+#[test]
+fn more_rounds_than_16_bits_count() {
+    for bytes in long_cycles() {
+        let case = format!("plan {}", hex(&bytes));
+        let plan = second::read(&bytes).expect("an accepted plan");
+        assert!(has_long_timer(&plan), "{case}");
+        let rounds = second::run(&plan, EVERY_PLAN, |_, _| ()).rounds;
+        assert!(rounds > 65_536, "only {rounds} rounds; {case}");
+
+        let mut random = Random::new(rounds);
+        for limit in [65_535, 65_536, rounds - 1, rounds, 1 << 32, EVERY_PLAN] {
+            let lengths = Lengths::ample(&mut random, plan.cells(), 0);
+            compare::check(&mut random, &bytes, lengths, limit, &case);
+        }
+    }
+    compare::print_calls("more_rounds_than_16_bits_count");
+}
+
+/// Compares at limits 0, 1, R − 1, R, and one that does not fit 32 bits. A plan
+/// without an R up to `cap` is compared up to there.
+fn at_every_limit(sample: &Sample, cap: u64) {
     let plan = second::read(&sample.plan).unwrap_or_else(|refusal| panic!("refused {refusal}: {sample}"));
     let answer = second::run(&plan, cap, |_, _| ());
     let mut limits = vec![0, 1, answer.rounds - 1, answer.rounds];
     if answer.verdict != Verdict::Spent {
-        limits.push([u32::MAX, EVERY_PLAN, EVERY_PLAN, EVERY_PLAN][sample.seed as usize % 4]);
+        let wide = compare::wide_limits(answer.rounds);
+        limits.push(wide[sample.seed as usize % wide.len()]);
     }
     limits.dedup();
 

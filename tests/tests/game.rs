@@ -54,10 +54,15 @@ const BENCH: [&str; 10] = ["c1", "c2", "c3", "c4", "c5", "c6", "c7", "c8", "c9",
 const SITES: [&str; 8] =
     ["ramp", "ramp-quick", "carpark", "carpark-quick", "corridor", "hotel", "tower", "tower-early"];
 
+/// Plans with long timers, which are whole minutes.
+const LONG: [&str; 2] = ["coldstore", "coldstore-late"];
+
 #[test]
 fn written_plans() {
-    for name in BENCH.into_iter().chain(SITES) {
-        let plan = plan_of(name);
+    let played = BENCH.into_iter().chain(SITES).map(|name| (name, plan_of(name)));
+    // Second by second they would take too long.
+    let by_the_minute = LONG.into_iter().map(|name| (name, in_minutes(plan_of(name))));
+    for (name, plan) in played.chain(by_the_minute) {
         let text = String::from_utf8(file(&format!("{name}.out"))).expect("text");
         let kept = match text.split_whitespace().next() {
             Some("kept") => true,
@@ -69,6 +74,21 @@ fn written_plans() {
         assert_eq!(won(&plan, durations), kept, "{name}");
         assert_eq!(check(&plan), if kept { KEPT } else { BROKEN }, "{name}");
     }
+}
+
+/// The plan with a minute for its second: the rules then give a sixtieth of
+/// every wait, and the same verdict.
+fn in_minutes(mut plan: Draft) -> Draft {
+    let minutes = |seconds: &mut i64| {
+        assert_eq!(*seconds % 60, 0, "{seconds} seconds");
+        *seconds /= 60;
+    };
+    plan.edges.iter_mut().for_each(|edge| minutes(&mut edge.weight));
+    for link in &mut plan.links {
+        minutes(&mut link.least);
+        minutes(&mut link.most);
+    }
+    plan
 }
 
 /// Plans with one number changed by some seconds: a weight, a least or a most.
@@ -97,7 +117,7 @@ fn changed(plan: &Draft, row: usize, seconds: i64) -> Option<Draft> {
         return Some(plan);
     }
     let link = &mut plan.links[(row - edges) / 2];
-    let number = if (row - edges) % 2 == 0 { &mut link.least } else { &mut link.most };
+    let number = if (row - edges).is_multiple_of(2) { &mut link.least } else { &mut link.most };
     *number += seconds;
     (0 < link.least && link.least < link.most).then_some(plan)
 }

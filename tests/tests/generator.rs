@@ -1,42 +1,68 @@
 //! The generator is to exercise what the other tests rely on: without this
 //! they could all pass and show little.
 
-use sulgrach_tests::generate::{samples, Class};
-use sulgrach_tests::second;
-use sulgrach_tests::tally::Tally;
+use sulgrach_tests::generate::{samples, Class, Sample, CLASSES};
+use sulgrach_tests::second::{self, Plan};
+use sulgrach_tests::tally::{has_long_timer, Tally};
+
+fn read(sample: &Sample) -> Plan {
+    second::read(&sample.plan).unwrap_or_else(|refusal| panic!("refused {refusal}: {sample}"))
+}
 
 #[test]
 fn plans_use_every_rule_and_both_verdicts() {
     // In a mixed plan much happens at once and a rule seldom decides alone.
-    for (class, count, cap, verdicts) in [(Class::Decisive, 600, 1_000, 20), (Class::Mixed, 150, 300, 1)] {
-        let mut tally = Tally::default();
+    for (class, count, cap, one_in) in [(Class::Decisive, 1_000, 1_000, 30), (Class::Mixed, 300, 300, 200)] {
+        let mut short = Tally::default();
+        let mut long = Tally::default();
         for sample in samples(class, 0, count) {
-            let plan =
-                second::read(&sample.plan).unwrap_or_else(|refusal| panic!("refused {refusal}: {sample}"));
+            let plan = read(&sample);
+            let tally = if has_long_timer(&plan) { &mut long } else { &mut short };
             tally.add(&plan, cap, true);
         }
-        let count = count as usize;
-        assert!(tally.kept > count / 4, "{class:?}: kept {}", tally.kept);
-        assert!(tally.broken > count / 4, "{class:?}: broken {}", tally.broken);
-        assert!(tally.both > count * 3 / 4, "{class:?}: with links and propositions {}", tally.both);
-        assert!(tally.unknown > count / 12, "{class:?}: with an unknown digit {}", tally.unknown);
-        for rule in 1..=6 {
-            let (table, verdict) = (tally.changes_table[rule], tally.changes_verdict[rule]);
-            assert!(table > count / 4, "{class:?}: rule {rule} changes {table} tables");
-            assert!(verdict >= verdicts, "{class:?}: rule {rule} changes {verdict} verdicts");
-        }
+        use_every_rule_and_both_verdicts(&short, one_in, &format!("{class:?}, short timers"));
+        use_every_rule_and_both_verdicts(&long, one_in, &format!("{class:?}, long timers"));
+    }
+}
+
+/// Each rule is to decide the verdict of one plan in so many, and of one at
+/// least.
+fn use_every_rule_and_both_verdicts(tally: &Tally, one_in: usize, plans: &str) {
+    let count = tally.plans;
+    println!("{plans}: {count}, decided by each rule {:?}", &tally.changes_verdict[1..]);
+    assert!(tally.kept > count / 4, "{plans}: kept {}", tally.kept);
+    assert!(tally.broken > count / 4, "{plans}: broken {}", tally.broken);
+    assert!(tally.both > count * 3 / 4, "{plans}: with links and propositions {}", tally.both);
+    assert!(tally.unknown > count / 12, "{plans}: with an unknown digit {}", tally.unknown);
+    for rule in 1..=6 {
+        let (table, verdict) = (tally.changes_table[rule], tally.changes_verdict[rule]);
+        assert!(table > count / 4, "{plans}: rule {rule} changes {table} tables");
+        assert!(verdict >= (count / one_in).max(1), "{plans}: rule {rule} changes {verdict} verdicts");
+    }
+}
+
+/// A library with the bound that timers had before is to be seen in each class.
+#[test]
+fn many_plans_have_long_timers() {
+    for class in CLASSES {
+        let count = if class == Class::Dense { 24 } else { 200 };
+        let long = samples(class, 0, count).filter(|sample| has_long_timer(&read(sample))).count();
+        println!("{class:?}: {long} of {count} plans have long timers");
+        let least = count as usize / if class == Class::Small { 5 } else { 3 };
+        assert!(long >= least, "{class:?}: only {long} of {count}");
     }
 }
 
 #[test]
 fn slow_and_large_plans_are_so() {
     let rounds = samples(Class::Slow, 0, 60).map(|sample| {
-        let plan = second::read(&sample.plan).unwrap_or_else(|refusal| panic!("refused {refusal}: {sample}"));
-        second::run(&plan, 10_000, |_, _| ()).rounds
+        let plan = read(&sample);
+        (second::run(&plan, 10_000, |_, _| ()).rounds, has_long_timer(&plan))
     });
-    assert!(rounds.filter(|&rounds| rounds > 2_000).count() > 10);
+    let slow: Vec<bool> = rounds.filter(|&(rounds, _)| rounds > 2_000).map(|(_, long)| long).collect();
+    assert!(slow.len() > 10, "{slow:?}");
+    assert!(slow.contains(&true) && slow.contains(&false), "{slow:?}");
     for sample in samples(Class::Dense, 0, 24) {
-        let plan = second::read(&sample.plan).unwrap_or_else(|refusal| panic!("refused {refusal}: {sample}"));
-        assert!(plan.cells() > 15_000, "{sample}");
+        assert!(read(&sample).cells() > 15_000, "{sample}");
     }
 }

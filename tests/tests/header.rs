@@ -2,20 +2,23 @@
 //! the library is called by in every other test.
 
 use sulgrach_tests::library::header::{CALLS, CONSTANTS, SULGRACH_STACK};
-use sulgrach_tests::second::{listing_bytes, EVERY_PLAN, MOST_CELLS, MOST_LINES};
+use sulgrach_tests::second::{listing_bytes, EVERY_PLAN, MOST_CELLS, MOST_LINES, MOST_SECONDS};
 
 #[test]
 fn every_constant() {
     let expected = [
+        // The limit and the numbers of an answer are 64 bits wide.
+        ("SULGRACH_INTERFACE", 2),
         ("SULGRACH_KEPT", 0),
         ("SULGRACH_BROKEN", 1),
         ("SULGRACH_SPENT", 2),
         ("SULGRACH_REFUSED", 100),
-        ("SULGRACH_CELLS", MOST_CELLS as u32),
+        ("SULGRACH_SECONDS", MOST_SECONDS as u64),
+        ("SULGRACH_CELLS", MOST_CELLS as u64),
         ("SULGRACH_ROUNDS", EVERY_PLAN),
-        ("SULGRACH_LISTING", listing_bytes(MOST_LINES) as u32),
+        ("SULGRACH_LISTING", listing_bytes(MOST_LINES) as u64),
         // No figure of the specification: `stack.rs` measures it.
-        ("SULGRACH_STACK", SULGRACH_STACK),
+        ("SULGRACH_STACK", SULGRACH_STACK.into()),
     ];
     assert_eq!(CONSTANTS, expected);
 }

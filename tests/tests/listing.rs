@@ -2,8 +2,8 @@
 //! both replays accept what is handed over.
 
 use sulgrach_tests::compare::{self, Lengths, LONGEST_LISTING};
-use sulgrach_tests::generate::{hex, samples, Class, Draft, Random, Sample};
-use sulgrach_tests::second::{self, listing_bytes, Edge, Verdict, EVERY_PLAN, MOST_LINES};
+use sulgrach_tests::generate::{hex, long_cycles, samples, Class, Draft, Random, Sample};
+use sulgrach_tests::second::{self, listing_bytes, Edge, Verdict, EVERY_PLAN, MOST_LINES, MOST_SECONDS};
 use sulgrach_tests::times;
 
 #[test]
@@ -38,13 +38,32 @@ fn extreme_slow_and_dense_plans() {
 fn listings_about_as_long_as_allowed() {
     let bounded = [(1, 2_046, 4_095), (2, 2_046, 4_096), (1, 2_047, 4_097), (2, 2_047, 4_098)];
     for (point, most, lines) in bounded {
-        with_lines(lines, &two_in_turns(4, 3_600, Some((point, most))));
+        with_lines(lines, &two_in_turns(4, MOST_SECONDS, Some((point, most))));
     }
     // So many lines that 16 bits would take them for one or three.
-    for (points, longest, lines) in [(31, 1_057, 65_537), (16, 2_048, 65_539)] {
+    for (points, longest, lines) in [(7, 4_681, 65_537), (8, 4_096, 65_539)] {
         with_lines(lines, &two_in_turns(points, longest, None));
     }
     compare::print_calls("listings_about_as_long_as_allowed");
+}
+
+/// The last round decides between spent and refusal 7; no output serves.
+#[test]
+fn more_rounds_than_16_bits_count() {
+    for bytes in long_cycles() {
+        let case = format!("plan {}", hex(&bytes));
+        let plan = second::read(&bytes).expect("an accepted plan");
+        let listed = second::run_and_list(&plan, EVERY_PLAN);
+        let (rounds, length) = (listed.answer.rounds, listing_bytes(listed.lines.len()));
+        assert!(rounds > 65_536 && listed.lines.len() > MOST_LINES, "{rounds} rounds; {case}");
+
+        let mut random = Random::new(rounds);
+        for (limit, output) in [(rounds - 1, length), (rounds, LONGEST_LISTING), (EVERY_PLAN, length)] {
+            let lengths = Lengths::ample(&mut random, plan.cells(), output);
+            assert_eq!(compare::list(&mut random, &bytes, lengths, limit, &case), None, "{case}");
+        }
+    }
+    compare::print_calls("more_rounds_than_16_bits_count");
 }
 
 /// Points 1 and 2 wait for each other, so that each round raises one cell;
@@ -72,14 +91,15 @@ fn with_lines(lines: usize, plan: &[u8]) {
     }
 }
 
-/// Lists a plan with the limit too small and large enough, and, if broken,
-/// with the output one byte too short, just long enough, and longer.
-fn in_every_way(sample: &Sample, cap: u32) {
+/// Lists a plan with the limit too small, just large enough, and larger than 32
+/// bits hold; if broken, with the output one byte too short, just long enough,
+/// and longer.
+fn in_every_way(sample: &Sample, cap: u64) {
     let plan = second::read(&sample.plan).unwrap_or_else(|refusal| panic!("refused {refusal}: {sample}"));
     let listed = second::run_and_list(&plan, cap);
     let rounds = listed.answer.rounds;
     let mut random = Random::new(sample.seed);
-    let mut list = |limit: u32, output: usize, exactly: bool| {
+    let mut list = |limit: u64, output: usize, exactly: bool| {
         let mut lengths = Lengths::ample(&mut random, plan.cells(), output);
         if exactly {
             lengths.output = output;
@@ -87,18 +107,20 @@ fn in_every_way(sample: &Sample, cap: u32) {
         compare::list(&mut random, &sample.plan, lengths, limit, sample)
     };
 
+    let wide = compare::wide_limits(rounds);
+    let wide = wide[sample.seed as usize % wide.len()];
     list(rounds - 1, 200, false);
     match listed.answer.verdict {
         Verdict::Spent => assert!(list(rounds, 200, false).is_none()),
         Verdict::Kept => {
-            list(EVERY_PLAN, 0, true);
+            list(wide, 0, true);
             list(rounds, 200, false);
         }
         Verdict::Broken => {
             let length = listing_bytes(listed.lines.len());
             list(rounds, length - 1, true);
             list(rounds, length, true);
-            list(EVERY_PLAN, length.min(LONGEST_LISTING), false);
+            list(wide, length.min(LONGEST_LISTING), false);
         }
     }
 }

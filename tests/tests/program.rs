@@ -11,8 +11,8 @@ use std::process::{Child, Command, ExitStatus, Stdio};
 use std::thread;
 use std::time::{Duration, Instant};
 use sulgrach_tests::generate::faults::{faulty, faulty_many_times, FAULTS};
-use sulgrach_tests::generate::{hex, samples, Class, Draft, Random};
-use sulgrach_tests::second::{self, Edge, Link, Verdict, EVERY_PLAN, MOST_BYTES};
+use sulgrach_tests::generate::{hex, long_cycles, samples, Class, Draft, Random};
+use sulgrach_tests::second::{self, Edge, Link, Verdict, EVERY_PLAN, MOST_BYTES, MOST_SECONDS};
 use sulgrach_tests::times;
 
 /// Longer than any plan used here takes.
@@ -241,24 +241,24 @@ fn a_reader_that_closes_early() {
 /// "Broken pipe"; the standard library has no name for it.
 const SIGPIPE: i32 = 13;
 
-/// A plan with more text than a pipe holds: waits of four digits in most of
+/// A plan with more text than a pipe holds: waits of several digits in most of
 /// 16,384 cells, by the time that a chain of edges breaks the plan.
 fn plan_of_much_text() -> Vec<u8> {
-    let links = (4..7).map(|end| Link { activation: end + 10, end, least: 1_000, most: 3_000 }).collect();
+    let links = (4..7).map(|end| Link { activation: end + 10, end, least: 8_000, most: 24_000 }).collect();
     let mut edges = vec![];
     let mut edge = |from, to, weight, label| edges.push(Edge { from, to, weight, label });
-    edge(7, 0, -3_600, 0);
+    edge(7, 0, -MOST_SECONDS, 0);
     (8..12).for_each(|point| edge(point, point - 1, 0, 0));
-    edge(0, 11, 3_599, 0);
+    edge(0, 11, MOST_SECONDS - 1, 0);
     for observing in 1..4 {
-        edge(observing, 0, -1_000, 0);
+        edge(observing, 0, -8_000, 0);
         edge(observing, 3 + observing, 0, 0);
     }
     let mut random = Random::new(3);
     for point in 12..32 {
         for to in [0, 4 + point % 3, 4 + (point + 1) % 3, 1 + point % 3] {
             let label = (0..3).fold(0, |label, j| label | random.pick(&[0, 1, 2]) << (2 * j));
-            edge(point, to, if to == 0 { -1_000 } else { 0 }, label);
+            edge(point, to, if to == 0 { -8_000 } else { 0 }, label);
         }
     }
     Draft { points: 32, observing: vec![1, 2, 3], links, edges }.bytes()
@@ -270,6 +270,17 @@ fn more_text_than_a_pipe_holds() {
     let expected = second::program(&plan);
     assert!(expected.len() > 65_536, "only {} bytes", expected.len());
     assert_prints(&plan, &expected);
+}
+
+#[test]
+fn a_count_above_16_bits() {
+    for plan in long_cycles() {
+        let expected = second::program(&plan);
+        let count = expected.strip_prefix("broken ").and_then(|text| text.lines().next());
+        let rounds: u64 = count.and_then(|count| count.parse().ok()).expect("broken, and a count");
+        assert!(rounds > 65_535, "only {rounds} rounds");
+        assert_prints(&plan, &expected);
+    }
 }
 
 /// The stack that README says is enough, in KiB.

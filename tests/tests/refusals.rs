@@ -101,17 +101,24 @@ fn a_short_index_leaves_all_memory() {
 
 #[test]
 fn bounds_that_are_still_accepted() {
-    let at_bounds: [(&str, Vec<u8>); 6] = [
+    let at_bounds: [(&str, Vec<u8>); 10] = [
         ("n 2", vec![2, 0, 0, 0]),
         ("n 32", vec![32, 0, 0, 0]),
         ("s 1, y 2", vec![2, 0, 1, 0, 0, 1, 0, 1, 0, 2]),
-        ("s 3,599, y 3,600", vec![2, 0, 1, 0, 0, 1, 0x0e, 0x0f, 0x0e, 0x10]),
-        ("u 3,600", vec![2, 0, 0, 1, 1, 0, 0x0e, 0x10, 0, 0]),
-        ("u −3,600", vec![2, 0, 0, 1, 1, 0, 0xf1, 0xf0, 0, 0]),
+        ("s 1, y 28,800", vec![2, 0, 1, 0, 0, 1, 0, 1, 0x70, 0x80]),
+        ("s 28,799, y 28,800", vec![2, 0, 1, 0, 0, 1, 0x70, 0x7f, 0x70, 0x80]),
+        ("u 28,800", vec![2, 0, 0, 1, 1, 0, 0x70, 0x80, 0, 0]),
+        ("u −28,800", vec![2, 0, 0, 1, 1, 0, 0x8f, 0x80, 0, 0]),
+        // One second above the bound of before.
+        ("s 3,600, y 3,601", vec![2, 0, 1, 0, 0, 1, 0x0e, 0x10, 0x0e, 0x11]),
+        ("u 3,601", vec![2, 0, 0, 1, 1, 0, 0x0e, 0x11, 0, 0]),
+        ("u −3,601", vec![2, 0, 0, 1, 1, 0, 0xf1, 0xef, 0, 0]),
     ];
-    for (number, (bound, plan)) in at_bounds.iter().enumerate() {
-        assert!(second::read(plan).is_ok(), "{bound}");
-        every_call(&mut Random::new(number as u64), plan, bound);
+    for (bound, plan) in at_bounds {
+        assert!(second::read(&plan).is_ok(), "{bound}");
+        for seed in 0..20 {
+            every_call(&mut Random::new(seed), &plan, &format!("{bound}, seed {seed}"));
+        }
     }
     for label in 0..=255 {
         let plan = [5, 4, 0, 1, 1, 2, 3, 4, 0, 1, 0, 0, label, 0];
@@ -130,7 +137,7 @@ fn every_call(random: &mut Random, plan: &[u8], case: &str) {
         Lengths { first: cells, second: cells, index: cells, output: random.pick(&[0, 100, 2_000]) };
     let limit = match second::read(plan) {
         Ok(accepted) if second::run(&accepted, 8, |_, _| ()).verdict == Verdict::Spent => 8,
-        _ => random.pick(&[0, 1, 2, EVERY_PLAN, u32::MAX]),
+        _ => random.pick(&[0, 1, 2, 1 << 32, EVERY_PLAN, u64::MAX]),
     };
     compare::check(random, plan, lengths, limit, &case);
     compare::list(random, plan, lengths, limit, &case);

@@ -4,7 +4,7 @@
 use sulgrach_tests::compare;
 use sulgrach_tests::generate::listings::{bytes, damaged, entry, Derivation, DAMAGES};
 use sulgrach_tests::generate::{self, hex, samples, Class, Draft, Random, Sample};
-use sulgrach_tests::second::{self, Edge, Entry, Ground, Line, Plan, Verdict};
+use sulgrach_tests::second::{self, Edge, Entry, Ground, Line, Plan, Verdict, MOST_SECONDS};
 use sulgrach_tests::times;
 
 /// The most lines of a listing whose grounds are looked for among all lines.
@@ -130,21 +130,22 @@ fn an_end_with_an_unknown_digit() {
     compare::print_calls("an_end_with_an_unknown_digit");
 }
 
-/// Two points that send each other up by an hour a line, as far as a listing
-/// may go: waits far beyond the horizon and beyond 16 bits.
+/// Two points that send each other up by eight hours a line, as far as a
+/// listing may go: waits far beyond the horizon and beyond 16 bits.
 #[test]
 fn the_longest_climb() {
-    let edge = |from, to| Edge { from, to, weight: -3600, label: 0 };
+    let edge = |from, to| Edge { from, to, weight: -MOST_SECONDS, label: 0 };
     let plan =
         Draft { points: 3, observing: vec![], links: vec![], edges: vec![edge(1, 2), edge(2, 1)] }.bytes();
-    let horizon = 3 * 3600;
+    let longest = MOST_SECONDS as u32;
+    let horizon = 3 * longest;
     let climb = |m: u16| -> Vec<Entry> {
         let step = |i: u16| Entry {
             point: 1 + (i % 2) as u8,
             set: 0,
             label: 0,
             rule: 1,
-            wait: 3600 * (u32::from(i) + 1),
+            wait: longest * (u32::from(i) + 1),
             row: i % 2,
             first: i + 2,
             second: 0,

@@ -12,7 +12,7 @@ use sulgrach_tests::second;
 
 /// Enough rounds for the plans of the repository, and few enough for plans of
 /// many cells.
-const LIMIT: u32 = 40;
+const LIMIT: u64 = 40;
 
 fn tests_directory() -> PathBuf {
     PathBuf::from(env!("CARGO_MANIFEST_DIR"))

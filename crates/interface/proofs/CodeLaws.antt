@@ -13,17 +13,17 @@ use Rattle.rounds.specs.Outcomes.{Outcome, kept, broken, refused, pick, ended, 
 use Rattle.rounds.proofs.Checking.{refusal-few}
 use Rattle.interface.specs.Codes.{codeOf}
 
-pick-few : (b : Bool) (o p : Outcome) → codeOf o ≤ 106 → codeOf p ≤ 106 → codeOf (pick b o p) ≤ 106
-pick-few true o p h k = h
-pick-few false o p h k = k
+pub pick-few : (most : ℕ) (b : Bool) (o p : Outcome) → codeOf o ≤ most → codeOf p ≤ most → codeOf (pick b o p) ≤ most
+pick-few most true o p h k = h
+pick-few most false o p h k = k
 
 ended-few : (P : Plan) (T : List ℕ) (limit : ℕ) (r : Option ℕ) → codeOf (ended P T limit r) ≤ 106
 ended-few P T limit none = omega arith
-ended-few P T limit (some r) = pick-few (firstAlarmWaits P (tableFrom P T r)) (broken r) (kept r) (omega arith) (omega arith)
+ended-few P T limit (some r) = pick-few 106 (firstAlarmWaits P (tableFrom P T r)) (broken r) (kept r) (omega arith) (omega arith)
 
 pub check-few : (bs F G : List ℕ) (limit : ℕ) → codeOf (checkOutcome bs F G limit) ≤ 106
 unfolding checkOutcome
 check-few bs F G limit =
     let P = planOf bs in
-    pick-few (not (eqb (refusal bs) 0)) (refused (refusal bs)) _ (omega (arith, refusal-few bs))
-    (pick-few (tooShort P F G) (refused 6) (runOutcome P (zeros P) limit) (omega arith) (ended-few P (zeros P) limit (roundsTo P (zeros P) limit)))
+    pick-few 106 (not (eqb (refusal bs) 0)) (refused (refusal bs)) _ (omega (arith, refusal-few bs))
+    (pick-few 106 (tooShort P F G) (refused 6) (runOutcome P (zeros P) limit) (omega arith) (ended-few P (zeros P) limit (roundsTo P (zeros P) limit)))

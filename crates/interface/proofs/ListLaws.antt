@@ -1,49 +1,26 @@
--- The code and the length of a listing fit into 32 bits: no refusal has a number above 7, and a listing has at most 4,096 lines.
-use mathlib.Core.Path.{_≡_, refl}
-use mathlib.Core.Bool.{Bool, true, false, _||_}
+-- The codes of a listing fit into 32 bits: no refusal has a number above 7. And its two numbers, put one after the other.
+use mathlib.Core.Path.{_≡_}
 use mathlib.Core.List.{List}
 use Prim.Native.Nat.{ℕ, _≤_}
 use native.Mathlib.Omega.{arith}
-use lib.Dec.{ltb}
 use lib.ListN.{length}
-use borrow.Author.Tests.{ltb-false}
 use Rattle.plan.specs.Plan.{Plan}
 use Rattle.plan.specs.Layout.{planOf}
 use Rattle.rounds.specs.Outcomes.{Outcome, kept, broken, spent, refused, pick, checkOutcome}
-use Rattle.listing_lines.specs.Listed.{listingLines}
-use Rattle.listing.specs.ListOutcomes.{listingLength, lengthWith, tooLong, withListing, indexShort, listOutcome}
+use Rattle.listing.specs.ListOutcomes.{tooLong, withListing, indexShort, listOutcome}
 use Rattle.interface.specs.Codes.{codeOf, countInto, lengthInto, numbersInto}
-use Rattle.interface.proofs.CodeLaws.{check-few}
+use Rattle.interface.proofs.CodeLaws.{pick-few, check-few}
 
-or-first : (a b : Bool) → a || b ≡ false → a ≡ false
-or-first true b e = e
-or-first false b e = refl
+listed-few : (P : Plan) (room : ℕ) (o : Outcome) → codeOf o ≤ 106 → codeOf (withListing P room o) ≤ 107
+listed-few P room (kept r) h = omega arith
+listed-few P room (broken r) h = pick-few 107 (tooLong P r room) (refused 7) (broken r) (omega arith) (omega arith)
+listed-few P room (spent r) h = omega arith
+listed-few P room (refused n) h = omega arith
 
--- 2 + 14 × 4,096
-short : (P : Plan) (r room : ℕ) → tooLong P r room ≡ false → listingLength P r ≤ 57346
-unfolding tooLong listingLength
-short P r room e = omega (arith, ltb-false 4096 (length (listingLines P r)) (or-first (ltb 4096 (length (listingLines P r))) _ e))
-
-abbrev Fits : Plan → Outcome → Type 0
-Fits P o = (codeOf o ≤ 107) × (lengthWith P o ≤ 57346)
-
-listed-fits : (P : Plan) (room : ℕ) (o : Outcome) → codeOf o ≤ 106 → Fits P (withListing P room o)
-listed-fits P room (kept r) h = (omega arith, omega arith)
-listed-fits P room (broken r) h = go (tooLong P r room) refl
-  where
-    go : (b : Bool) → tooLong P r room ≡ b → Fits P (pick b (refused 7) (broken r))
-    go true e = (omega arith, omega arith)
-    go false e = (omega arith, short P r room e)
-listed-fits P room (spent r) h = (omega arith, omega arith)
-listed-fits P room (refused n) h = (omega arith, omega arith)
-
-pub list-fits : (bs F G : List ℕ) (limit : ℕ) (I out : List ℕ) → Fits (planOf bs) (listOutcome bs F G limit I out)
+pub list-few : (bs F G : List ℕ) (limit : ℕ) (I out : List ℕ) → codeOf (listOutcome bs F G limit I out) ≤ 107
 unfolding listOutcome
-list-fits bs F G limit I out = go (indexShort bs I)
-  where
-    go : (b : Bool) → Fits (planOf bs) (pick b (refused 6) (withListing (planOf bs) (length out) (checkOutcome bs F G limit)))
-    go true = (omega arith, omega arith)
-    go false = listed-fits (planOf bs) (length out) (checkOutcome bs F G limit) (check-few bs F G limit)
+list-few bs F G limit I out =
+    pick-few 107 (indexShort bs I) (refused 6) _ (omega arith) (listed-few (planOf bs) (length out) (checkOutcome bs F G limit) (check-few bs F G limit))
 
 -- the count and the length one after the other: a the answer as the check's, b as the listing's
 pub numbers-told : (ns : List ℕ) (n : ℕ) {a b : Outcome} {ms ls : List ℕ} → a ≡ b → ms ≡ countInto a ns → ls ≡ lengthInto b n ms → ls ≡ numbersInto b n ns

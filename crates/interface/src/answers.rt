@@ -20,7 +20,7 @@ pub fn code(answer: Answer) -> u32
 }
 
 // A number that has no entry is left out.
-pub fn put_number(numbers: &mut [u32], place: usize, value: u32)
+pub fn put_number(numbers: &mut [u64], place: usize, value: u64)
     ensures { λ _. ⌜ after numbers ≡ set (before numbers) place value ⌝ }
     ensures { λ _. ⌜ SameLength numbers ⌝ }
 {
@@ -29,7 +29,7 @@ pub fn put_number(numbers: &mut [u32], place: usize, value: u32)
     }
 }
 
-pub fn put_count(numbers: &mut [u32], answer: Answer)
+pub fn put_count(numbers: &mut [u64], answer: Answer)
     ensures { λ _. ⌜ after numbers ≡ countInto (outcomeOf answer) (before numbers) ⌝ }
     ensures { λ _. ⌜ SameLength numbers ⌝ }
 {

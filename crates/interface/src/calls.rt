@@ -13,8 +13,8 @@ pub extern "C" fn sulgrach_check(
     plan: &[u8],
     first: &mut [u32],
     second: &mut [u32],
-    limit: u32,
-    rounds: &mut [u32],
+    limit: u64,
+    rounds: &mut [u64],
 ) -> u32
     ensures { λ r. ⌜ AfterCheckCall (before plan) limit (moments first) (moments second) (moments rounds) r ⌝ }
 {

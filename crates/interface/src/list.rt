@@ -6,7 +6,6 @@ use listing::Listed;
 use listing::list;
 use rounds::Answer;
 ghost use mathlib.Core.Path.{_≡_};
-ghost use Prim.Native.Nat.{_<_};
 ghost use Rattle.plan.specs.Moments.{before, after, SameLength, moments};
 ghost use Rattle.rounds.specs.Outcomes.{outcomeOf};
 ghost use Rattle.listing.specs.ListOutcomes.{answerOf, lengthOf};
@@ -25,14 +24,13 @@ fn answer(listed: Listed) -> Answer
     }
 }
 
-fn put_length(numbers: &mut [u32], listed: Listed)
-    requires { ⌜ lengthOf listed < 4294967296 ⌝ }
+fn put_length(numbers: &mut [u64], listed: Listed)
     ensures { λ _. ⌜ after numbers ≡ lengthInto (answerOf listed) (lengthOf listed) (before numbers) ⌝ }
     ensures { λ _. ⌜ SameLength numbers ⌝ }
 {
     match listed {
         Listed::Kept(_) => {}
-        Listed::Broken(_, bytes) => put_number(numbers, 1, bytes as u32),
+        Listed::Broken(_, bytes) => put_number(numbers, 1, bytes as u64),
         Listed::Spent(_) => {}
         Listed::Refused(_) => {}
     }
@@ -44,10 +42,10 @@ pub extern "C" fn sulgrach_list(
     plan: &[u8],
     first: &mut [u32],
     second: &mut [u32],
-    limit: u32,
+    limit: u64,
     index: &mut [u16],
     out: &mut [u8],
-    numbers: &mut [u32],
+    numbers: &mut [u64],
 ) -> u32
     ensures { λ r. ⌜ AfterListCall (before plan) limit (moments first) (moments second) (moments index) (moments out) (moments numbers) r ⌝ }
 {

@@ -20,7 +20,7 @@ ghost use Rattle.listing.specs.Answering.{BrokenTables, BrokenLent, Brok
 const MOST: usize = 4096;
 
 // Each round before the last has a line, so that many rounds have too many lines.
-const MOST_ROUNDS: u32 = 4096;
+const MOST_ROUNDS: u64 = 4096;
 
 // The listing of m lines, which the output has room for.
 fn write_out(
@@ -30,7 +30,7 @@ fn write_out(
     index: &mut [u16],
     out: &mut [u8],
     m: usize,
-    r: u32,
+    r: u64,
 )
     requires { ⌜ BrokenLent (now plan) (now first) (now second) (now index) r × (m ≡ length (listingLines (planOf (now plan)) r)) × (m ≤ 4096) × (2 + 14 * m ≤ length (now out)) ⌝ }
     ensures { λ _. ⌜ after first ≡ before first ⌝ }
@@ -51,7 +51,7 @@ fn write_out(
 }
 
 // The lines of the listing, counted as far as 4,097; the tables are as they were.
-fn lines_of(plan: &[u8], first: &mut [u32], second: &mut [u32], r: u32) -> usize
+fn lines_of(plan: &[u8], first: &mut [u32], second: &mut [u32], r: u64) -> usize
     requires { ⌜ BrokenTables (now plan) (now first) (now second) r ⌝ }
     ensures { λ n. ⌜ n ≡ min 4097 (length (listingLines (planOf (before plan)) r)) ⌝ }
     ensures { λ _. ⌜ after first ≡ before first ⌝ }
@@ -68,7 +68,7 @@ fn list_broken(
     second: &mut [u32],
     index: &mut [u16],
     out: &mut [u8],
-    r: u32,
+    r: u64,
 ) -> Listed
     requires { ⌜ BrokenLent (now plan) (now first) (now second) (now index) r ⌝ }
     ensures { λ _. ⌜ after first ≡ before first ⌝ }
@@ -117,7 +117,7 @@ pub fn list(
     plan: &[u8],
     first: &mut [u32],
     second: &mut [u32],
-    limit: u32,
+    limit: u64,
     index: &mut [u16],
     out: &mut [u8],
 ) -> Listed

@@ -74,7 +74,7 @@ fn count_rounds(
     horizon: u64,
     first: &mut [u32],
     second: &mut [u32],
-    rounds: u32,
+    rounds: u64,
 ) -> usize
     requires { ⌜ RoundsLent (now plan) (now marks) horizon (now first) (now second) rounds ⌝ }
     ensures { λ r. ⌜ r ≡ countWith 1 (linesTo (planOf (before plan)) rounds) ⌝ }
@@ -90,7 +90,7 @@ fn count_rounds(
 }
 
 // The lines of the listing of a plan that breaks in round r. Both tables end with that round's table.
-pub fn count_lines(plan: &[u8], first: &mut [u32], second: &mut [u32], r: u32) -> usize
+pub fn count_lines(plan: &[u8], first: &mut [u32], second: &mut [u32], r: u64) -> usize
     requires { ⌜ BrokenPlan (now plan) (now first) (now second) r ⌝ }
     ensures { λ n. ⌜ n ≡ min 4097 (length (listingLines (planOf (before plan)) r)) ⌝ }
     ensures { λ _. ⌜ after first ≡ table (planOf (before plan)) r ⌝ }

@@ -74,7 +74,7 @@ fn list_rounds(
     index: &mut [u16],
     out: &mut [u8],
     m: usize,
-    rounds: u32,
+    rounds: u64,
 )
     requires { ⌜ ListingStarted (now plan) (now marks) horizon (now first) (now second) (now index) (now out) m rounds ⌝ }
     ensures { λ _. ⌜ ListsRounds plan rounds first second index out ⌝ }
@@ -153,7 +153,7 @@ pub fn write_listing(
     index: &mut [u16],
     out: &mut [u8],
     m: usize,
-    r: u32,
+    r: u64,
 )
     requires { ⌜ ListingLent (now plan) (now first) (now second) (now index) (now out) m r ⌝ }
     ensures { λ _. ⌜ after first ≡ table (planOf (before plan)) r ⌝ }

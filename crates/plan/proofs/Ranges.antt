@@ -12,7 +12,7 @@ use lib.ListN.{length}
 use Rattle.plan.specs.Label.{plain}
 use Rattle.plan.specs.Plan.{Plan, cells}
 use Rattle.plan.specs.Layout.{planOf, greatest, mostAt, downAt, largestOf, lengthFor}
-use Rattle.plan.specs.Refusal.{every, sizesFit, observerFits, linkEndsFit, durationFits, linkFits, edgeEndsFit, labelFits, edgeFits, refusalOf, refusal, Accepted}
+use Rattle.plan.specs.Refusal.{every, sizesFit, observerFits, linkEndsFit, mostSeconds, durationFits, linkFits, edgeEndsFit, labelFits, edgeFits, refusalOf, refusal, Accepted}
 
 -- of any plan, also of one that no bytes stand for: rows lie among the points, durations are ordered, M bounds what a rule adds to a wait,
 -- and the horizon is n × M or more
@@ -37,9 +37,9 @@ pub record Bounded (P : Plan) : Type 0 where
   pub links-in : P .links ≤ 4
   pub edges-in : P .edges ≤ 128
   pub cells-in : cells P ≤ 16384
-  pub up-in : (i : ℕ) → i < P .edges → P .up i ≤ 3600
-  pub largest-in : P .largest ≤ 3600
-  pub horizon-in : P .horizon ≤ 115200
+  pub up-in : (i : ℕ) → i < P .edges → P .up i ≤ mostSeconds
+  pub largest-in : P .largest ≤ mostSeconds
+  pub horizon-in : P .horizon ≤ 32 * mostSeconds
 
 -- ---- tests of every row, and of a chain of refusals
 every-at : (f : ℕ → Bool) (n i : ℕ) → Is (every f n) → i < n → Is (f i)
@@ -124,7 +124,7 @@ module _ (bs : List ℕ) (P : Plan) (j : Judged bs P) where
     activation-fit : P .activation i < P .points
     finish-fit : (0 < P .finish i) × (P .finish i < P .points)
     durations-fit : (0 < P .least i) × (P .least i < P .most i)
-    most-fit : P .most i ≤ 3600
+    most-fit : P .most i ≤ mostSeconds
 
   link-fit : (i : ℕ) → i < P .links → LinkFit i
   unfolding linkFits linkEndsFit durationFits
@@ -134,7 +134,7 @@ module _ (bs : List ℕ) (P : Plan) (j : Judged bs P) where
         activation-fit = ltb→lt (P .activation i) (P .points) (search (and-l, and-r) depth 9);
         finish-fit = (ltb→lt 0 (P .finish i) (search (and-l, and-r) depth 9), ltb→lt (P .finish i) (P .points) (search (and-l, and-r) depth 9));
         durations-fit = (ltb→lt 0 (P .least i) (search (and-l, and-r) depth 9), ltb→lt (P .least i) (P .most i) (search (and-l, and-r) depth 9));
-        most-fit = leb→le (P .most i) 3600 (search (and-l, and-r) depth 9);
+        most-fit = leb→le (P .most i) mostSeconds (search (and-l, and-r) depth 9);
       }
 
   record EdgeFit (i : ℕ) : Type 0 where
@@ -142,8 +142,8 @@ module _ (bs : List ℕ) (P : Plan) (j : Judged bs P) where
     to-fit : P .to i < P .points
     label-fit : P .label i < 4 ^ P .propositions
     plain-fit : Is (plain (P .propositions) (P .label i))
-    up-fit : P .up i ≤ 3600
-    down-fit : P .down i ≤ 3600
+    up-fit : P .up i ≤ mostSeconds
+    down-fit : P .down i ≤ mostSeconds
 
   edge-fit : (i : ℕ) → i < P .edges → EdgeFit i
   unfolding edgeFits edgeEndsFit labelFits
@@ -154,8 +154,8 @@ module _ (bs : List ℕ) (P : Plan) (j : Judged bs P) where
         to-fit = ltb→lt (P .to i) (P .points) (search (and-l, and-r) depth 9);
         label-fit = ltb→lt (P .label i) (4 ^ P .propositions) (search (and-l, and-r) depth 9);
         plain-fit = search (and-l, and-r) depth 9;
-        up-fit = leb→le (P .up i) 3600 (search (and-l, and-r) depth 9);
-        down-fit = leb→le (P .down i) 3600 (search (and-l, and-r) depth 9);
+        up-fit = leb→le (P .up i) mostSeconds (search (and-l, and-r) depth 9);
+        down-fit = leb→le (P .down i) mostSeconds (search (and-l, and-r) depth 9);
       }
 
 -- ---- M and the horizon of a plan's bytes
@@ -200,8 +200,8 @@ module _ (bs : List ℕ) where
       horizon-far = rw horizon-is (le-refl _);
     }
 
-    largest-fit : planOf bs .largest ≤ 3600
-    largest-fit = largest-under 3600 (λ i h. link-fit bs (planOf bs) fit i h .most-fit) (λ i h. edge-fit bs (planOf bs) fit i h .down-fit)
+    largest-fit : planOf bs .largest ≤ mostSeconds
+    largest-fit = largest-under mostSeconds (λ i h. link-fit bs (planOf bs) fit i h .most-fit) (λ i h. edge-fit bs (planOf bs) fit i h .down-fit)
 
     pub accepted-bounded : Bounded (planOf bs)
     accepted-bounded = record {

@@ -36,9 +36,13 @@ linkEndsFit P i =
     && ltb 0 (P .finish i) && differs (P .observer) (P .finish i) (P .propositions)
     && differs (P .finish) (P .finish i) i
 
+-- 4.4, 4.5: no duration and no weight, either way, is longer, in seconds
+abbrev pub mostSeconds : ℕ
+mostSeconds = 28800
+
 -- 4.4: the durations
 unfoldable pub durationFits : Plan → ℕ → Bool
-durationFits P i = ltb 0 (P .least i) && ltb (P .least i) (P .most i) && leb (P .most i) 3600
+durationFits P i = ltb 0 (P .least i) && ltb (P .least i) (P .most i) && leb (P .most i) mostSeconds
 
 -- 4.4: the whole link
 unfoldable pub linkFits : Plan → ℕ → Bool
@@ -48,7 +52,7 @@ linkFits P i = linkEndsFit P i && durationFits P i
 unfoldable pub edgeEndsFit : Plan → ℕ → Bool
 edgeEndsFit P i =
     ltb (P .from i) (P .points) && ltb (P .to i) (P .points) && not (eqb (P .from i) (P .to i))
-    && leb (P .up i) 3600 && leb (P .down i) 3600
+    && leb (P .up i) mostSeconds && leb (P .down i) mostSeconds
 
 -- 4.5: the label is plain and has p digits
 unfoldable pub labelFits : Plan → ℕ → Bool

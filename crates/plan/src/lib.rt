@@ -39,3 +39,6 @@ pub use numbers::lesser;
 pub use numbers::widen_byte;
 pub use numbers::widen_cell;
 pub use numbers::widen_word;
+
+// No duration and no weight, either way, is longer, in seconds.
+pub const MOST_SECONDS: u64 = 28800;

@@ -1,4 +1,5 @@
 // Refusals 1 to 5, in their order.
+use plan::MOST_SECONDS;
 use plan::cells;
 use plan::edge_down;
 use plan::edge_from;
@@ -205,7 +206,7 @@ fn duration_fits(plan: &[u8], i: usize) -> bool
     if y <= s {
         return false;
     }
-    y <= 3600
+    y <= MOST_SECONDS
 }
 
 fn edges_fit(plan: &[u8]) -> bool
@@ -251,10 +252,10 @@ fn edge_ends_fit(plan: &[u8], i: usize) -> bool
     if x == y {
         return false;
     }
-    if 3600 < edge_up(plan, i) {
+    if MOST_SECONDS < edge_up(plan, i) {
         return false;
     }
-    edge_down(plan, i) <= 3600
+    edge_down(plan, i) <= MOST_SECONDS
 }
 
 // A label with no digit at p or above is below 4^p.

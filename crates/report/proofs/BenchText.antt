@@ -22,7 +22,7 @@ pub decimal-zero : decimal 0 ≡ 48 ∷ []
 unfolding digits decimal
 decimal-zero = refl
 
-pub decimal-limit : decimal servingLimit ≡ 49 ∷ 57 ∷ 52 ∷ 54 ∷ 52 ∷ 51 ∷ 53 ∷ 53 ∷ 56 ∷ 53 ∷ []
+pub decimal-limit : decimal servingLimit ≡ 49 ∷ 53 ∷ 53 ∷ 55 ∷ 49 ∷ 51 ∷ 54 ∷ 57 ∷ 57 ∷ 56 ∷ 53 ∷ []
 unfolding digits decimal
 decimal-limit = refl
 

@@ -38,11 +38,11 @@ numberOf (broken r) = r
 numberOf (spent r) = r
 numberOf (refused n) = n
 
-numbered-length : (word : List ℕ) (n : ℕ) → length word ≤ 8 → n < 10 ^ 10 → length (numberedLine word n) ≤ 19
+numbered-length : (word : List ℕ) (n : ℕ) → length word ≤ 8 → n < 10 ^ 11 → length (numberedLine word n) ≤ 20
 unfolding numberedLine
-numbered-length word n h k = rw (length-append, length-append) (omega (arith, decimal-length 9 n k))
+numbered-length word n h k = rw (length-append, length-append) (omega (arith, decimal-length 10 n k))
 
-pub first-length : (o : Outcome) → numberOf o < 10 ^ 10 → length (firstLine o) ≤ 19
+pub first-length : (o : Outcome) → numberOf o < 10 ^ 11 → length (firstLine o) ≤ 20
 unfolding firstLine
 first-length (kept r) h = numbered-length _ r (omega arith) h
 first-length (broken r) h = numbered-length _ r (omega arith) h
@@ -73,11 +73,11 @@ lines-length T w n h k s =
     )
 
 -- ---- the text of an outcome
-refused-length : (k : ℕ) (P : Plan) (T : List ℕ) → k < 10 ^ 10 → length (textOf (refused k) P T) ≤ 196608
+refused-length : (k : ℕ) (P : Plan) (T : List ℕ) → k < 10 ^ 11 → length (textOf (refused k) P T) ≤ 196608
 unfolding textOf
 refused-length k P T h = rw length-append (omega (arith, first-length (refused k) h))
 
-shown-length : (o : Outcome) (P : Plan) (T : List ℕ) → numberOf o < 10 ^ 10 → P .points ≤ 32 → cells P ≤ 16384 → Small T (cells P) → length (textOf o P T) ≤ 196608
+shown-length : (o : Outcome) (P : Plan) (T : List ℕ) → numberOf o < 10 ^ 11 → P .points ≤ 32 → cells P ≤ 16384 → Small T (cells P) → length (textOf o P T) ≤ 196608
 unfolding textOf
 shown-length o P T h n k s = rw length-append (omega (arith, first-length o h, part (isRefused o)))
   where
@@ -119,7 +119,7 @@ module _ (bs F G : List ℕ) (limit : ℕ) where
         (omega (arith, run-length (planOf bs) (accepted-well-formed bs accepted) (zeros (planOf bs)) (length-replicate (cells (planOf bs)) 0) limit))
 
   -- the text of what the check answers and leaves in the first table
-  check-length : limit < 10 ^ 10 → length (textOf (checkOutcome bs F G limit) (planOf bs) (checkTable bs F G limit F)) ≤ 196608
+  check-length : limit < 10 ^ 11 → length (textOf (checkOutcome bs F G limit) (planOf bs) (checkTable bs F G limit F)) ≤ 196608
   check-length h = go (refuses-or-runs bs F G limit)
     where
       go : ((k : ℕ) × (checkOutcome bs F G limit ≡ refused k) × (k ≤ 6)) ⊎ (Accepted bs × (cells (planOf bs) ≤ length F) × (cells (planOf bs) ≤ length G)) → length (textOf (checkOutcome bs F G limit) (planOf bs) (checkTable bs F G limit F)) ≤ 196608

@@ -14,7 +14,7 @@ ghost use Rattle.report.specs.Text.{joined, numberedLine, firstLine, cel
 ghost use Rattle.report.specs.Buffer.{TextFits, TextPut};
 
 // A word with the space after it, a number, and a newline.
-fn put_numbered(out: &mut [u8], at: usize, word: &[u8], n: u32) -> usize
+fn put_numbered(out: &mut [u8], at: usize, word: &[u8], n: u64) -> usize
     requires { ⌜ TextFits at (numberedLine (now word) n) ⌝ }
     ensures { λ r. ⌜ TextPut (numberedLine (before word) n) at (before out) r (after out) ⌝ }
 {
@@ -31,7 +31,7 @@ pub fn put_answer(out: &mut [u8], at: usize, answer: Answer) -> usize
         Answer::Kept(r) => put_numbered(out, at, b"kept ", r),
         Answer::Broken(r) => put_numbered(out, at, b"broken ", r),
         Answer::Spent(r) => put_numbered(out, at, b"spent ", r),
-        Answer::Refused(n) => put_numbered(out, at, b"refused ", n),
+        Answer::Refused(n) => put_numbered(out, at, b"refused ", n as u64),
     }
 }
 

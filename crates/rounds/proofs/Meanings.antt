@@ -9,7 +9,7 @@ use native.Mathlib.Omega.{arith}
 use lib.ListN.{length, List·getD-append}
 use Rattle.plan.specs.Plan.{Plan, cells}
 use Rattle.plan.specs.Layout.{planOf}
-use Rattle.plan.specs.Refusal.{Accepted}
+use Rattle.plan.specs.Refusal.{mostSeconds, Accepted}
 use Rattle.plan.proofs.Ranges.{WellFormed, accepted-well-formed, accepted-bounded}
 use Rattle.rules.proofs.Next.{IsNext, next-is}
 use Rattle.rules_panel.proofs.Broken.{no-panel}
@@ -104,6 +104,10 @@ means-on P limit o A F G e d = record {
   kept-if = d .kept-if;
 }
 
+-- 15.4's number for the most cells, the longest horizon and the largest M
+serving-is : servingLimit ≡ 16384 * (32 * mostSeconds + mostSeconds + 1) + 1
+serving-is = refl
+
 -- ---- over the bytes of a plan
 module _ (bs : List ℕ) (accepted : Accepted bs) where
   pub run-means-bytes : (limit : ℕ) → Meaning (planOf bs) limit (runOutcome (planOf bs) (zeros (planOf bs)) limit) (runTable (planOf bs) (zeros (planOf bs)) limit) (runTable (planOf bs) (zeros (planOf bs)) limit)
@@ -113,8 +117,8 @@ module _ (bs : List ℕ) (accepted : Accepted bs) where
   pub serves : enoughRounds (planOf bs) ≤ servingLimit
   serves =
       let b = accepted-bounded bs accepted in
-      let h : planOf bs .horizon + planOf bs .largest + 1 ≤ 118801 = omega (arith, b .horizon-in, b .largest-in) in
-      omega (arith, mul-le-mul (b .cells-in) h)
+      let h : planOf bs .horizon + planOf bs .largest + 1 ≤ 32 * mostSeconds + mostSeconds + 1 = omega (arith, b .horizon-in, b .largest-in) in
+      rw serving-is (omega (arith, mul-le-mul (b .cells-in) h))
 
   -- enough rounds leave no plan undecided
   pub decided : (limit : ℕ) (o : Outcome) (F G : List ℕ) → Meaning (planOf bs) limit o F G → servingLimit ≤ limit → IsSpent o → ⊥

@@ -43,7 +43,7 @@ enoughRounds P = cells P * (P .horizon + P .largest + 1) + 1
 
 -- 9.6: the limit that serves every accepted plan
 abbrev pub servingLimit : ℕ
-servingLimit = 1946435585
+servingLimit = 15571369985
 
 -- 15.1, 15.2, 15.4, 15.6: broken and kept say what they mean whatever the limit, and with enough rounds a plan that is not refused gets one of them
 pub record Meaning (P : Plan) (limit : ℕ) (o : Outcome) (first second : List ℕ) : Type 0 where

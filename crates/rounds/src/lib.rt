@@ -5,12 +5,12 @@ pub use running::check;
 pub use running::run;
 
 // With this limit no accepted plan is spent.
-pub const SERVING_LIMIT: u32 = 1946435585;
+pub const SERVING_LIMIT: u64 = 15571369985;
 
 // What the check answers; specs/Outcomes says what each stands for.
 pub enum Answer {
-    Kept(u32),
-    Broken(u32),
-    Spent(u32),
+    Kept(u64),
+    Broken(u64),
+    Spent(u64),
     Refused(u32),
 }

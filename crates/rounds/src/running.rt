@@ -69,7 +69,7 @@ fn make_round(
 }
 
 // The answer of the round that stopped.
-fn ending(table: &[u32], width: usize, made: u32) -> Answer
+fn ending(table: &[u32], width: usize, made: u64) -> Answer
     requires { ⌜ width ≤ length (now table) ⌝ }
     ensures { λ r. ⌜ outcomeOf r ≡ pick (anyAbove (take width (before table))) (broken made) (kept made) ⌝ }
 {
@@ -86,7 +86,7 @@ fn rounds_to(
     horizon: u64,
     first: &mut [u32],
     second: &mut [u32],
-    limit: u32,
+    limit: u64,
 ) -> Answer
     requires { ⌜ Ready (now plan) (now marks) horizon (now first) (now second) ⌝ }
     requires { ⌜ RoomFrom (planOf (now plan)) (take (cellsOf (planOf (now plan))) (now first)) ⌝ }
@@ -116,7 +116,7 @@ pub fn run(
     horizon: u64,
     first: &mut [u32],
     second: &mut [u32],
-    limit: u32,
+    limit: u64,
 ) -> Answer
     requires { ⌜ Ready (now plan) (now marks) horizon (now first) (now second) ⌝ }
     requires { ⌜ RoomFrom (planOf (now plan)) (take (cellsOf (planOf (now plan))) (now first)) ⌝ }
@@ -128,7 +128,7 @@ pub fn run(
 }
 
 // The check of an accepted plan with tables that are long enough: rounds from zeros.
-fn checked(plan: &[u8], first: &mut [u32], second: &mut [u32], limit: u32) -> Answer
+fn checked(plan: &[u8], first: &mut [u32], second: &mut [u32], limit: u64) -> Answer
     requires { ⌜ Accepted (now plan) × (cellsOf (planOf (now plan)) ≤ length (now first)) × (cellsOf (planOf (now plan)) ≤ length (now second)) ⌝ }
     ensures { λ r. ⌜ AfterCheck (before plan) limit (moments first) (moments second) (outcomeOf r) ⌝ }
 {
@@ -140,7 +140,7 @@ fn checked(plan: &[u8], first: &mut [u32], second: &mut [u32], limit: u32) -> An
 }
 
 // Kept or broken with R, spent with the limit, or refused with the refusal's number; refused, the tables are untouched.
-pub fn check(plan: &[u8], first: &mut [u32], second: &mut [u32], limit: u32) -> Answer
+pub fn check(plan: &[u8], first: &mut [u32], second: &mut [u32], limit: u64) -> Answer
     ensures { λ r. ⌜ AfterCheck (before plan) limit (moments first) (moments second) (outcomeOf r) ⌝ }
 {
     let number = refusal(plan);

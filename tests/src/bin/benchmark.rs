@@ -2,40 +2,76 @@
 //! plans. Not part of the gate.
 //!
 //! All checkers take turns in one run, so that what else the machine does
-//! falls on all of them alike; the shortest time of each counts.
+//! falls on all of them alike; the shortest time of each counts. With
+//! `SULGRACH_EARLIER_LIB_DIR` an earlier library is one of them (README.md).
 
 use std::fs;
 use std::path::Path;
 use std::time::{Duration, Instant};
-use sulgrach_tests::generate::{sample, slow_cycle, typical, Class};
+use sulgrach_tests::generate::{plan_before_lengthening, slow_cycle, typical, Class};
 use sulgrach_tests::library;
 use sulgrach_tests::port;
 use sulgrach_tests::second::{self, Verdict, EVERY_PLAN};
 
 /// Code and rounds of a check; the tables are left as the check leaves them.
-type Check = fn(plan: &[u8], first: &mut [u32], second: &mut [u32], limit: u32) -> (u32, u32);
+type Check = fn(plan: &[u8], first: &mut [u32], second: &mut [u32], limit: u64) -> (u32, u64);
 
 /// A checker, and the most rounds that it is given time for.
 struct Checker {
     name: &'static str,
     check: Check,
-    most_rounds: u32,
+    most_rounds: u64,
 }
 
 /// The checkers, the library first: the others are measured against it.
 const CHECKERS: &[Checker] = &[
     Checker { name: "library", check: check_library, most_rounds: EVERY_PLAN },
+    #[cfg(earlier_library)]
+    Checker { name: "earlier", check: check_earlier, most_rounds: EVERY_PLAN },
     Checker { name: "port", check: port::check, most_rounds: EVERY_PLAN },
     Checker { name: "second", check: check_second, most_rounds: 20_000 },
 ];
 
-fn check_library(plan: &[u8], first: &mut [u32], second: &mut [u32], limit: u32) -> (u32, u32) {
+fn check_library(plan: &[u8], first: &mut [u32], second: &mut [u32], limit: u64) -> (u32, u64) {
     let mut rounds = [0];
     let code = library::check(plan, first, second, limit, &mut rounds);
     (code, rounds[0])
 }
 
-fn check_second(plan: &[u8], first: &mut [u32], second: &mut [u32], limit: u32) -> (u32, u32) {
+#[cfg(earlier_library)]
+fn check_earlier(plan: &[u8], first: &mut [u32], second: &mut [u32], limit: u64) -> (u32, u64) {
+    extern "C" {
+        fn earlier_check(
+            plan: *const u8,
+            plan_length: usize,
+            first: *mut u32,
+            first_length: usize,
+            second: *mut u32,
+            second_length: usize,
+            limit: u64,
+            rounds: *mut u64,
+            rounds_length: usize,
+        ) -> u32;
+    }
+    let mut rounds = 0;
+    // SAFETY: as for the library's own check.
+    let code = unsafe {
+        earlier_check(
+            plan.as_ptr(),
+            plan.len(),
+            first.as_mut_ptr(),
+            first.len(),
+            second.as_mut_ptr(),
+            second.len(),
+            limit,
+            &mut rounds,
+            1,
+        )
+    };
+    (code, rounds)
+}
+
+fn check_second(plan: &[u8], first: &mut [u32], second: &mut [u32], limit: u64) -> (u32, u64) {
     match second::check(plan, first, second, limit) {
         Ok(answer) => (code(answer.verdict), answer.rounds),
         Err(refusal) => (library::refused(refusal), 0),
@@ -54,11 +90,11 @@ fn code(verdict: Verdict) -> u32 {
 struct Case {
     name: String,
     plan: Vec<u8>,
-    limit: u32,
+    limit: u64,
 }
 
 impl Case {
-    fn new(name: impl Into<String>, plan: Vec<u8>, limit: u32) -> Self {
+    fn new(name: impl Into<String>, plan: Vec<u8>, limit: u64) -> Self {
         Case { name: name.into(), plan, limit }
     }
 }
@@ -69,8 +105,8 @@ fn main() {
         (0..8).map(|seed| Case::new(format!("seed {seed}"), typical(seed), EVERY_PLAN)),
     );
     // Seeds whose tables are three quarters full after five rounds.
-    let dense =
-        [1, 3, 18, 37].map(|seed| Case::new(format!("seed {seed}"), sample(Class::Dense, seed).plan, 5));
+    let dense = [1, 3, 18, 37]
+        .map(|seed| Case::new(format!("seed {seed}"), plan_before_lengthening(Class::Dense, seed), 5));
     run("dense: near 16,384 cells, at most 5 rounds", dense.into_iter());
     let slow = [
         Case::new("5 points", slow_cycle(5, 2, 10_000, false), EVERY_PLAN),
@@ -118,8 +154,8 @@ fn geometric_mean(ratios: &[f64]) -> f64 {
 /// What one checker took for one plan.
 struct Measure {
     code: u32,
-    rounds: u32,
-    limit: u32,
+    rounds: u64,
+    limit: u64,
     shortest: Duration,
 }
 
@@ -178,7 +214,7 @@ fn report(case: &Case, cells: usize, measures: &[Measure]) {
 }
 
 fn per_round(measure: &Measure) -> f64 {
-    measure.shortest.as_secs_f64() / f64::from(measure.rounds.max(1))
+    measure.shortest.as_secs_f64() / measure.rounds.max(1) as f64
 }
 
 /// A time in the unit that suits it.

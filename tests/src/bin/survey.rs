@@ -31,7 +31,10 @@ fn main() {
 fn print(tally: &mut Tally) {
     tally.rounds.sort_unstable();
     let share = |percent: usize| tally.rounds[(tally.rounds.len() - 1) * percent / 100];
-    println!("  {} plans, {} with links and propositions", tally.plans, tally.both);
+    println!(
+        "  {} plans, {} with links and propositions, {} with a long timer",
+        tally.plans, tally.both, tally.long
+    );
     println!("  kept {}, broken {}, spent {}", tally.kept, tally.broken, tally.spent);
     println!("  rounds: median {}, nine tenths {}, most {}", share(50), share(90), share(100));
     println!("  at most {} lines in a table; an unknown digit in {} plans", tally.most_lines, tally.unknown);

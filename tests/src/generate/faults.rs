@@ -1,7 +1,7 @@
 //! Plans that are to be refused: every clause of refusals 1 to 5, alone and
 //! several at once.
 
-use super::{any_edge, frame, Random};
+use super::{any_edge, frame, scaled, varied, Random};
 use crate::second::MOST_CELLS;
 
 /// One clause of a refusal, and how to make a plan fall under it.
@@ -49,7 +49,7 @@ impl Sizes {
 }
 
 /// A sound plan with at least two observing points, links and edges, and room
-/// for a digit above its propositions.
+/// for a digit above its propositions. Half of them have long timers.
 pub fn sound(random: &mut Random) -> (Sizes, Vec<u8>) {
     let p = random.between(2, 3) as usize;
     let k = random.between(2, 3) as usize;
@@ -57,6 +57,10 @@ pub fn sound(random: &mut Random) -> (Sizes, Vec<u8>) {
     let mut draft = frame(random, n, p, k, 20);
     while draft.edges.len() < 2 || random.chance(70) {
         any_edge(random, &mut draft, 10, 40);
+    }
+    if random.chance(50) {
+        draft = scaled(random, &draft);
+        draft = varied(random, &draft);
     }
     (Sizes { n, p, k, e: draft.edges.len() }, draft.bytes())
 }
@@ -247,7 +251,7 @@ pub static FAULTS: &[Fault] = &[
         clause: "s = 0",
         refusal: 4,
         apply: |random, sizes, plan| {
-            let most = random.pick(&[1, 2, 3600]);
+            let most = random.pick(&[1, 2, 28_800]);
             set_duration(random, sizes, plan, 0, most);
         },
     },
@@ -260,7 +264,7 @@ pub static FAULTS: &[Fault] = &[
         clause: "s = y",
         refusal: 4,
         apply: |random, sizes, plan| {
-            let both = random.pick(&[1, 17, 3600]);
+            let both = random.pick(&[1, 17, 3_601, 28_800]);
             set_duration(random, sizes, plan, both, both);
         },
     },
@@ -268,22 +272,33 @@ pub static FAULTS: &[Fault] = &[
         clause: "s > y",
         refusal: 4,
         apply: |random, sizes, plan| {
-            let least = random.pick(&[8, 256, 3600, 32_768, 65_535]);
-            set_duration(random, sizes, plan, least, 7);
+            let (least, most) = random.pick(&[
+                (8, 7),
+                (256, 7),
+                (28_800, 28_799),
+                (28_801, 28_800),
+                (32_768, 7),
+                (65_535, 28_800),
+            ]);
+            set_duration(random, sizes, plan, least, most);
         },
     },
     Fault {
-        clause: "y over 3,600",
+        clause: "y over 28,800",
         refusal: 4,
         apply: |random, sizes, plan| {
-            let most = random.pick(&[3601, 32_767, 32_768, 65_535]);
-            set_duration(random, sizes, plan, 5, most);
+            let least = random.pick(&[1, 5, 28_800]);
+            let most = random.pick(&[28_801, 32_767, 32_768, 65_535]);
+            set_duration(random, sizes, plan, least, most);
         },
     },
     Fault {
-        clause: "s and y over 3,600",
+        clause: "s and y over 28,800",
         refusal: 4,
-        apply: |random, sizes, plan| set_duration(random, sizes, plan, 3600, 3601),
+        apply: |random, sizes, plan| {
+            let (least, most) = random.pick(&[(28_801, 28_802), (32_767, 32_768), (32_768, 65_535)]);
+            set_duration(random, sizes, plan, least, most);
+        },
     },
     Fault {
         clause: "edge from ≥ n",
@@ -313,18 +328,18 @@ pub static FAULTS: &[Fault] = &[
         },
     },
     Fault {
-        clause: "u over 3,600",
+        clause: "u over 28,800",
         refusal: 5,
         apply: |random, sizes, plan| {
-            let weight = random.pick(&[3601, 3602, i16::MAX]);
+            let weight = random.pick(&[28_801, 28_802, i16::MAX]);
             set_weight(random, sizes, plan, weight);
         },
     },
     Fault {
-        clause: "u under −3,600",
+        clause: "u under −28,800",
         refusal: 5,
         apply: |random, sizes, plan| {
-            let weight = random.pick(&[-3601, -3602, i16::MIN]);
+            let weight = random.pick(&[-28_801, -28_802, i16::MIN]);
             set_weight(random, sizes, plan, weight);
         },
     },

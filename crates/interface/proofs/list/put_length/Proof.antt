@@ -1,5 +1,4 @@
--- The length of a broken plan's listing; it fits, as is asked.
-use native.Mathlib.Omega.{arith}
+-- The length of a broken plan's listing.
 use borrow.Author.Needs.{needs}
 use Rattle.interface.proofs.list.put_length.Statement.{statement}
 use Rattle.interface.proofs.list.put_length.Tie as tie
@@ -9,9 +8,6 @@ enum-told c = search needs
 
 enum-known-listed : tie.Need-enum-known-listed
 enum-known-listed c = search needs
-
-cast-put-number : tie.Need-cast-put-number
-cast-put-number c = omega (arith, rw (c .before .before .listed .given .1) at (c .before .before .before .before .before .pre))
 
 put-number-requires : tie.Need-put-number-requires
 put-number-requires c κs = search needs
@@ -43,7 +39,6 @@ put-length-spec =
     (tie.spec
     enum-told
     enum-known-listed
-    cast-put-number
     put-number-requires
     enum-told-2
     enum-told-3

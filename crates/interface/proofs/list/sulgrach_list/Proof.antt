@@ -4,7 +4,7 @@ use native.Mathlib.Omega.{arith}
 use denote.Ref.{now}
 use borrow.Author.Needs.{needs}
 use Rattle.interface.specs.Codes.{codeOf}
-use Rattle.interface.proofs.ListLaws.{list-fits, numbers-told}
+use Rattle.interface.proofs.ListLaws.{list-few, numbers-told}
 use Rattle.interface.proofs.list.sulgrach_list.Statement.{statement}
 use Rattle.interface.proofs.list.sulgrach_list.Tie as tie
 
@@ -18,15 +18,12 @@ put-count-requires : tie.Need-put-count-requires
 put-count-requires c κs = search needs
 
 put-length-requires : tie.Need-put-length-requires
-put-length-requires c κs =
-    let s = c .before .before .before .before .before .before .before .before .before .before .before .before .before .before .before .before .before .before .before .before .before .before .before .before .before .args in
-    let k = c .before .before .before .before .before .before .before .before .before .before .before .before .before .before .list .ensures in
-    rw (k .length-is, k .outcome-is) (omega (arith, list-fits (now (s .plan)) (now (s .first)) (now (s .second)) (s .limit) (now (s .index)) (now (s .out)) .1))
+put-length-requires c κs = search needs
 
 code-requires : tie.Need-code-requires
 code-requires c κs =
     let s = c .before .before .before .before .before .before .before .before .before .before .before .before .before .before .before .before .before .before .before .before .before .before .before .before .before .before .before .before .args in
-    rw (c .before .before .before .before .before .before .before .before .answer .ensures, c .before .before .before .before .before .before .before .before .before .before .before .before .before .before .before .before .before .list .ensures .outcome-is) (omega (arith, list-fits (now (s .plan)) (now (s .first)) (now (s .second)) (s .limit) (now (s .index)) (now (s .out)) .0))
+    rw (c .before .before .before .before .before .before .before .before .answer .ensures, c .before .before .before .before .before .before .before .before .before .before .before .before .before .before .before .before .before .list .ensures .outcome-is) (omega (arith, list-few (now (s .plan)) (now (s .first)) (now (s .second)) (s .limit) (now (s .index)) (now (s .out))))
 
 same-length : tie.Need-same-length
 same-length c = search needs

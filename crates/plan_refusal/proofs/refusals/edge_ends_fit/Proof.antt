@@ -7,11 +7,11 @@ use native.Mathlib.Omega.{arith}
 use borrow.Author.Tests.{le-ltb, lt-ltb, le-leb, lt-leb, eq-eqb, ne-eqb}
 use lib.Dec.{leb}
 use Rattle.plan.specs.Plan.{Plan}
-use Rattle.plan.specs.Refusal.{edgeEndsFit}
+use Rattle.plan.specs.Refusal.{mostSeconds, edgeEndsFit}
 use Rattle.plan_refusal.proofs.refusals.edge_ends_fit.Statement.{statement}
 use Rattle.plan_refusal.proofs.refusals.edge_ends_fit.Tie as tie
 
-last : (P : Plan) (i : ℕ) → P .from i < P .points → P .to i < P .points → (P .from i ≡ P .to i → ⊥) → P .up i ≤ 3600 → leb (P .down i) 3600 ≡ edgeEndsFit P i
+last : (P : Plan) (i : ℕ) → P .from i < P .points → P .to i < P .points → (P .from i ≡ P .to i → ⊥) → P .up i ≤ mostSeconds → leb (P .down i) mostSeconds ≡ edgeEndsFit P i
 unfolding edgeEndsFit
 last P i x y d u = simp (lt-ltb, ne-eqb, le-leb)
 

@@ -40,6 +40,9 @@ enum-known-answer-4 c = search needs
 slice-aggregate-put-numbered-4 : tie.Need-slice-aggregate-put-numbered-4
 slice-aggregate-put-numbered-4 c = search needs
 
+cast-put-numbered : tie.Need-cast-put-numbered
+cast-put-numbered c = search needs
+
 put-numbered-requires-4 : tie.Need-put-numbered-requires-4
 unfolding firstLine
 put-numbered-requires-4 c κs = rw (c .before .before .before .answer4 .given .1) at (c .before .before .before .before .before .before .pre)
@@ -87,6 +90,7 @@ put-answer-spec =
     put-numbered-requires-3
     enum-known-answer-4
     slice-aggregate-put-numbered-4
+    cast-put-numbered
     put-numbered-requires-4
     same-length
     returns
