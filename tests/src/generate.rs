@@ -110,7 +110,7 @@ pub fn sample(class: Class, seed: u64) -> Sample {
 }
 
 /// The plan of a class and a seed before its timers are made long. The benchmark
-/// takes these, so that a library of before can run them too.
+/// takes these, which a library of before long timers accepts too.
 pub fn plan_before_lengthening(class: Class, seed: u64) -> Vec<u8> {
     first_draft(class, seed).1.bytes()
 }
