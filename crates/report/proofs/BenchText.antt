@@ -13,8 +13,9 @@ use Rattle.rules.specs.Tables.{raiseCell, next}
 use Rattle.rounds.specs.Rounds.{zeros}
 use Rattle.rounds.specs.Outcomes.{Outcome, runOutcome, runTable}
 use Rattle.rounds.proofs.Checking.{check-runs, check-leaves}
-use Rattle.report.specs.Decimal.{digits, decimal}
-use Rattle.report.specs.Text.{joined, numberedLine, firstLine, cellText, pointLine, textOf}
+use Rattle.text.specs.Decimal.{digits, decimal}
+use Rattle.text.specs.Joined.{joined}
+use Rattle.report.specs.Text.{numberedLine, firstLine, cellText, pointLine, textOf}
 use Rattle.rounds.specs.Meaning.{servingLimit}
 use Rattle.report.specs.Printed.{programOutcome, programTable, printed}
 

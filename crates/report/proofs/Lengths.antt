@@ -21,9 +21,10 @@ use Rattle.rounds.specs.Meaning.{servingLimit}
 use Rattle.rounds.proofs.Stopping.{Stops, Ends, Running, stops-or-runs, ends-at, ends-spent}
 use Rattle.rounds.proofs.Small.{run-length, table-high, table-small}
 use Rattle.rounds.proofs.Checking.{check-runs, check-leaves, refuses-or-runs}
-use Rattle.report.specs.Text.{joined, numberedLine, firstLine, cellText, pointLine, isRefused, textOf}
+use Rattle.text.specs.Joined.{joined}
+use Rattle.text.proofs.Decimals.{decimal-length}
+use Rattle.report.specs.Text.{numberedLine, firstLine, cellText, pointLine, isRefused, textOf}
 use Rattle.report.specs.Printed.{programOutcome, programTable, printed}
-use Rattle.report.proofs.Decimals.{decimal-length}
 
 -- ---- the parts of a text
 joined-length : (f : ℕ → List ℕ) (b n : ℕ) → ((i : ℕ) → i < n → length (f i) ≤ b) → length (joined f n) ≤ n * b

@@ -13,15 +13,17 @@ use Rattle.plan.specs.Plan.{Plan, width, cells}
 use Rattle.plan.specs.Layout.{planOf}
 use Rattle.plan.specs.Refusal.{Accepted}
 use Rattle.rounds.specs.Outcomes.{Outcome, refused, checkOutcome, checkTable}
-use Rattle.report.specs.Text.{joined, firstLine, pointLine, isRefused, textOf}
 use Rattle.rounds.specs.Meaning.{IsSpent, servingLimit, Meaning}
 use Rattle.rounds.specs.AfterCheck.{AfterCheck}
 use Rattle.rounds.proofs.Meanings.{refused-means}
 use Rattle.rounds.proofs.Checking.{refuses-or-runs}
+use Rattle.text.specs.Joined.{joined}
+use Rattle.text.specs.Buffer.{TextFits, TextPut}
+use Rattle.text.proofs.Puts.{sets-start, put-append, room-second}
+use Rattle.report.specs.Text.{firstLine, pointLine, isRefused, textOf}
 use Rattle.report.specs.Printed.{programOutcome, programTable, printed, overlaid}
 use Rattle.report.specs.AfterReport.{AfterReport}
-use Rattle.report.specs.Buffer.{TextFits, TextPut, Printable}
-use Rattle.report.proofs.Puts.{sets-overlaid, put-append, room-second}
+use Rattle.report.specs.Printable.{Printable}
 use Rattle.report.proofs.Lengths.{run-long, printed-length}
 
 -- ---- the lines of a text
@@ -47,7 +49,8 @@ module _ (bs F G : List ℕ) where
   Reported r out after F′ G′ = AfterReport bs (record { entry = F; exit = F′ }) (record { entry = G; exit = G′ }) (record { entry = out; exit = after }) r
 
   whole : {r : ℕ} {out after F′ G′ : List ℕ} → TextPut (printed bs F G) 0 out r after → F′ ≡ programTable bs F G F → G′ ≡ programTable bs F G G → (IsSpent (programOutcome bs F G) → ⊥) → Meaning (planOf bs) servingLimit (programOutcome bs F G) F′ G′ → Reported r out after F′ G′
-  whole {r} {out} {after} p f g s m = record { length-is = p .next-is ∙ zero-add _; output-is = p .after-is ∙ sets-overlaid (printed bs F G) out; first-is = f; second-is = g; never-spent = s; means = m }
+  unfolding overlaid
+  whole {r} {out} {after} p f g s m = record { length-is = p .next-is ∙ zero-add _; output-is = p .after-is ∙ sets-start (printed bs F G) out; first-is = f; second-is = g; never-spent = s; means = m }
 
   -- ---- over 800 bytes
   module _ (h : 800 < length bs) where

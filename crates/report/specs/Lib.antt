@@ -1,5 +1,4 @@
-pub mod Decimal
 pub mod Text
 pub mod Printed
 pub mod AfterReport
-pub mod Buffer
+pub mod Printable

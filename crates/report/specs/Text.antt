@@ -1,16 +1,12 @@
 -- The text of an outcome and a table (13.3).
 use mathlib.Core.Bool.{Bool, true, false, cond}
 use mathlib.Core.List.{List, [], _∷_, _++_}
-use Prim.Native.Nat.{ℕ, zero, suc, _+_, _*_}
+use Prim.Native.Nat.{ℕ, _+_, _*_}
 use lib.ListN.{getD}
 use Rattle.plan.specs.Plan.{Plan, width}
 use Rattle.rounds.specs.Outcomes.{Outcome, kept, broken, spent, refused}
-use Rattle.report.specs.Decimal.{decimal}
-
--- the texts f 0 .. f (n - 1), one after the other
-unfoldable pub joined : (ℕ → List ℕ) → ℕ → List ℕ
-joined f zero = []
-joined f (suc n) = joined f n ++ f n
+use Rattle.text.specs.Decimal.{decimal}
+use Rattle.text.specs.Joined.{joined}
 
 -- 13.3: a word with the space after it, a number, and a newline
 unfoldable pub numberedLine : List ℕ → ℕ → List ℕ

@@ -1,6 +1,5 @@
 // The text that the program prints, put into a lent buffer.
 mod lines;
-mod putting;
 mod reporting;
 
 pub use reporting::report;

@@ -1,17 +1,18 @@
 // The lines of the text.
-use crate::putting::put_byte;
-use crate::putting::put_bytes;
-use crate::putting::put_decimal;
 use rounds::Answer;
+use text::put_byte;
+use text::put_bytes;
+use text::put_decimal;
 ghost use mathlib.Core.Path.{_≡_};
 ghost use mathlib.Core.List.{_∷_};
 ghost use Prim.Native.Nat.{_+_, _*_, _≤_};
 ghost use lib.ListN.{length};
 ghost use Rattle.plan.specs.Moments.{before, after};
 ghost use Rattle.rounds.specs.Outcomes.{outcomeOf};
-ghost use Rattle.report.specs.Decimal.{decimal};
-ghost use Rattle.report.specs.Text.{joined, numberedLine, firstLine, cellText, pointLine, isRefused};
-ghost use Rattle.report.specs.Buffer.{TextFits, TextPut};
+ghost use Rattle.text.specs.Decimal.{decimal};
+ghost use Rattle.text.specs.Joined.{joined};
+ghost use Rattle.text.specs.Buffer.{TextFits, TextPut};
+ghost use Rattle.report.specs.Text.{numberedLine, firstLine, cellText, pointLine, isRefused};
 
 // A word with the space after it, a number, and a newline.
 fn put_numbered(out: &mut [u8], at: usize, word: &[u8], n: u64) -> usize

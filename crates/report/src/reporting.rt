@@ -10,9 +10,10 @@ use rounds::check;
 ghost use Rattle.plan.specs.Moments.{before, after, moments};
 ghost use Rattle.plan.specs.Layout.{planOf};
 ghost use Rattle.rounds.specs.Outcomes.{outcomeOf};
+ghost use Rattle.text.specs.Buffer.{TextPut};
 ghost use Rattle.report.specs.Text.{textOf};
 ghost use Rattle.report.specs.AfterReport.{AfterReport};
-ghost use Rattle.report.specs.Buffer.{Printable, TextPut};
+ghost use Rattle.report.specs.Printable.{Printable};
 
 // The text of an answer and the first table, from the start of the output.
 fn put_text(out: &mut [u8], input: &[u8], table: &[u32], answer: Answer) -> usize

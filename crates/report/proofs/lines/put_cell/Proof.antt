@@ -1,6 +1,6 @@
 -- A space, and the decimal behind it.
 use borrow.Author.Needs.{needs}
-use Rattle.report.proofs.Puts.{put-append}
+use Rattle.text.proofs.Puts.{put-append}
 use Rattle.report.proofs.lines.put_cell.Statement.{statement}
 use Rattle.report.proofs.lines.put_cell.Tie as tie
 

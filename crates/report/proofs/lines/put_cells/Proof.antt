@@ -4,9 +4,10 @@ use Prim.Native.Nat.{_-_, _≤_}
 use native.Mathlib.Omega.{arith}
 use denote.Ref.{now}
 use borrow.Author.Needs.{needs}
-use Rattle.report.specs.Text.{joined, cellText}
-use Rattle.report.specs.Buffer.{TextPut}
-use Rattle.report.proofs.Puts.{put-none, put-joined, room-joined}
+use Rattle.text.specs.Joined.{joined}
+use Rattle.text.specs.Buffer.{TextPut}
+use Rattle.text.proofs.Puts.{put-none, put-joined, room-joined}
+use Rattle.report.specs.Text.{cellText}
 use Rattle.report.proofs.lines.put_cells.Statement.{statement}
 use Rattle.report.proofs.lines.put_cells.Tie as tie
 

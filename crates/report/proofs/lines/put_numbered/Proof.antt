@@ -1,7 +1,7 @@
 -- The word, the decimal and the newline, one behind the other.
 use borrow.Author.Needs.{needs}
+use Rattle.text.proofs.Puts.{put-append, room-first, room-second}
 use Rattle.report.specs.Text.{numberedLine}
-use Rattle.report.proofs.Puts.{put-append, room-first, room-second}
 use Rattle.report.proofs.lines.put_numbered.Statement.{statement}
 use Rattle.report.proofs.lines.put_numbered.Tie as tie
 

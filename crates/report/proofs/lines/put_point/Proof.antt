@@ -1,7 +1,7 @@
 -- The number, the cells and the newline, one behind the other.
 use borrow.Author.Needs.{needs}
+use Rattle.text.proofs.Puts.{put-append, room-first, room-second}
 use Rattle.report.specs.Text.{pointLine}
-use Rattle.report.proofs.Puts.{put-append, room-first, room-second}
 use Rattle.report.proofs.lines.put_point.Statement.{statement}
 use Rattle.report.proofs.lines.put_point.Tie as tie
 

@@ -5,9 +5,10 @@ use native.Mathlib.Omega.{arith}
 use denote.Ref.{now}
 use borrow.Author.Needs.{needs}
 use Rattle.rounds_tables.proofs.RoundLaws.{row-within}
-use Rattle.report.specs.Text.{joined, pointLine}
-use Rattle.report.specs.Buffer.{TextPut}
-use Rattle.report.proofs.Puts.{put-none, put-joined, room-joined}
+use Rattle.text.specs.Joined.{joined}
+use Rattle.text.specs.Buffer.{TextPut}
+use Rattle.text.proofs.Puts.{put-none, put-joined, room-joined}
+use Rattle.report.specs.Text.{pointLine}
 use Rattle.report.proofs.lines.put_points.Statement.{statement}
 use Rattle.report.proofs.lines.put_points.Tie as tie
 

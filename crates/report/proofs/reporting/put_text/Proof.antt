@@ -5,8 +5,8 @@ use borrow.Author.Needs.{needs}
 use Rattle.plan.specs.Layout.{planOf}
 use Rattle.plan.proofs.Ranges.{sizes-few}
 use Rattle.rounds.specs.Outcomes.{outcomeOf}
+use Rattle.text.proofs.Puts.{room-first}
 use Rattle.report.specs.Text.{textOf}
-use Rattle.report.proofs.Puts.{room-first}
 use Rattle.report.proofs.PrintedLaws.{text-refused, lines-asked, lines-put}
 use Rattle.report.proofs.reporting.put_text.Statement.{statement}
 use Rattle.report.proofs.reporting.put_text.Tie as tie

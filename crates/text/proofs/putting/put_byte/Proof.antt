@@ -4,10 +4,10 @@ use mathlib.Core.List.{[], _∷_}
 use Prim.Native.Nat.{_+_}
 use denote.Ref.{now}
 use borrow.Author.Needs.{needs}
-use Rattle.report.specs.Buffer.{TextPut}
-use Rattle.report.proofs.Puts.{put-in, put-out}
-use Rattle.report.proofs.putting.put_byte.Statement.{statement}
-use Rattle.report.proofs.putting.put_byte.Tie as tie
+use Rattle.text.specs.Buffer.{TextPut}
+use Rattle.text.proofs.Puts.{put-in, put-out}
+use Rattle.text.proofs.putting.put_byte.Statement.{statement}
+use Rattle.text.proofs.putting.put_byte.Tie as tie
 
 slice-write-out : tie.Need-slice-write-out
 slice-write-out c = search needs

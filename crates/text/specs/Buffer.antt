@@ -1,15 +1,9 @@
 -- For inner contracts only: what the functions that put text into the output are lent, and what they leave there. Nothing here is to be believed.
 use mathlib.Core.Path.{_≡_}
-use mathlib.Core.Bool.{false}
 use mathlib.Core.List.{List}
 use Prim.Native.Nat.{ℕ, _+_, _≤_}
 use lib.ListN.{length}
 use lib.Seq.{sets}
-use Rattle.plan.specs.Plan.{cells}
-use Rattle.plan.specs.Layout.{planOf}
-use Rattle.plan.specs.Refusal.{Accepted}
-use Rattle.rounds.specs.Outcomes.{Outcome}
-use Rattle.report.specs.Text.{isRefused, textOf}
 
 -- a place behind the text is still a small number
 pub record TextFits (at : ℕ) (text : List ℕ) : Type 0 where
@@ -20,8 +14,3 @@ pub record TextPut (text : List ℕ) (at : ℕ) (out : List ℕ) (next : ℕ) (a
   pub next-is : next ≡ at + length text
   pub after-is : after ≡ sets out at text
   pub length-is : length after ≡ length out
-
--- unless refused, the plan is accepted and the table has all its cells; and there is room for the text
-pub record Printable (bs : List ℕ) (o : Outcome) (T : List ℕ) : Type 0 where
-  pub accepted : isRefused o ≡ false → Accepted bs × (cells (planOf bs) ≤ length T)
-  pub room : TextFits 0 (textOf o (planOf bs) T)

@@ -5,14 +5,14 @@ use native.Mathlib.Omega.{arith}
 use borrow.Author.Needs.{needs}
 use borrow.Fn.Kinds.{In}
 use borrow.Fn.PlainCycle.{Measures, is, falls, and}
-use Rattle.report.proofs.DecimalPuts.{room-one, put-one, room-front, room-last, put-more}
-use Rattle.report.proofs.putting.put_decimal.Reads as put-decimal
-use Rattle.report.proofs.putting.put_decimal.Kinds as kinds
-use Rattle.report.proofs.putting.+put_decimal.Lts-put_decimal as lts
-use Rattle.report.proofs.putting.digit.Reads as digit
-use Rattle.report.proofs.putting.put_byte.Reads as put-byte
-use Rattle.report.proofs.putting.+put_decimal.{statement}
-use Rattle.report.proofs.putting.+put_decimal.Tie.{close}
+use Rattle.text.proofs.DecimalPuts.{room-one, put-one, room-front, room-last, put-more}
+use Rattle.text.proofs.putting.put_decimal.Reads as put-decimal
+use Rattle.text.proofs.putting.put_decimal.Kinds as kinds
+use Rattle.text.proofs.putting.+put_decimal.Lts-put_decimal as lts
+use Rattle.text.proofs.putting.digit.Reads as digit
+use Rattle.text.proofs.putting.put_byte.Reads as put-byte
+use Rattle.text.proofs.putting.+put_decimal.{statement}
+use Rattle.text.proofs.putting.+put_decimal.Tie.{close}
 
 abbrev μ : Measures 1 kinds.ps ℕ
 μ κs a = a .1 .1 .0

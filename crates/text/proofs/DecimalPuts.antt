@@ -2,10 +2,10 @@
 use mathlib.Core.Path.{_≡_}
 use mathlib.Core.List.{List, [], _∷_}
 use Prim.Native.Nat.{ℕ, _+_, _/_, _%_, _≤_, _<_}
-use Rattle.report.specs.Decimal.{decimal}
-use Rattle.report.specs.Buffer.{TextFits, TextPut}
-use Rattle.report.proofs.Decimals.{decimal-one, decimal-more}
-use Rattle.report.proofs.Puts.{put-append, room-first, room-second}
+use Rattle.text.specs.Decimal.{decimal}
+use Rattle.text.specs.Buffer.{TextFits, TextPut}
+use Rattle.text.proofs.Decimals.{decimal-one, decimal-more}
+use Rattle.text.proofs.Puts.{put-append, room-first, room-second}
 
 module _ (n : ℕ) where
   pub room-one : {at d : ℕ} → n < 10 → TextFits at (decimal n) → TextFits at (d ∷ [])

@@ -3,8 +3,8 @@ ghost use mathlib.Core.Path.{_≡_};
 ghost use mathlib.Core.List.{[], _∷_};
 ghost use Prim.Native.Nat.{_+_, _<_};
 ghost use Rattle.plan.specs.Moments.{before, after};
-ghost use Rattle.report.specs.Decimal.{decimal};
-ghost use Rattle.report.specs.Buffer.{TextFits, TextPut};
+ghost use Rattle.text.specs.Decimal.{decimal};
+ghost use Rattle.text.specs.Buffer.{TextFits, TextPut};
 
 // A byte that does not fit is left out.
 pub fn put_byte(out: &mut [u8], at: usize, byte: u8) -> usize

@@ -5,10 +5,10 @@ use lib.ListN.{length, take}
 use lib.Seq.{take-all}
 use denote.Ref.{now}
 use borrow.Author.Needs.{needs}
-use Rattle.report.specs.Buffer.{TextPut}
-use Rattle.report.proofs.Puts.{put-none, put-taken, room-taken}
-use Rattle.report.proofs.putting.put_bytes.Statement.{statement}
-use Rattle.report.proofs.putting.put_bytes.Tie as tie
+use Rattle.text.specs.Buffer.{TextPut}
+use Rattle.text.proofs.Puts.{put-none, put-taken, room-taken}
+use Rattle.text.proofs.putting.put_bytes.Statement.{statement}
+use Rattle.text.proofs.putting.put_bytes.Tie as tie
 
 abbrev Inv-loop : tie.InvT-loop
 Inv-loop out₀ at bytes next₀ i₀ i-end out next i = (i ≤ length bytes) × TextPut (take i bytes) at out₀ next out

@@ -6,11 +6,10 @@ use native.Mathlib.Nat.{add-zero, add-suc, suc-add, add-assoc, le-refl}
 use native.Mathlib.Decide.{ℕ-discrete}
 use native.Mathlib.Numerals.{add-one}
 use native.Mathlib.Omega.{arith}
-use lib.ListN.{length, getD, take, set, length-append, length-set}
+use lib.ListN.{length, getD, take, drop, set, length-append, length-set}
 use lib.Seq.{sets, set-out, take-suc, length-take-le}
-use Rattle.report.specs.Text.{joined}
-use Rattle.report.specs.Printed.{overlaid}
-use Rattle.report.specs.Buffer.{TextFits, TextPut}
+use Rattle.text.specs.Joined.{joined}
+use Rattle.text.specs.Buffer.{TextFits, TextPut}
 
 -- ---- what is put
 sets-append : (out : List ℕ) (at : ℕ) (s t : List ℕ) → sets out at (s ++ t) ≡ sets (sets out at s) (at + length s) t
@@ -53,12 +52,11 @@ sets-behind : (text : List ℕ) (at x : ℕ) (out : List ℕ) → sets (x ∷ ou
 sets-behind [] at x out = refl
 sets-behind (b ∷ text) at x out = sets-behind text (suc at) x (set out at b)
 
-pub sets-overlaid : (text out : List ℕ) → sets out 0 text ≡ overlaid text out
-unfolding overlaid
-sets-overlaid [] [] = refl
-sets-overlaid [] (x ∷ out) = refl
-sets-overlaid (b ∷ text) [] = sets-none 1 text
-sets-overlaid (b ∷ text) (x ∷ out) = sets-behind text 0 b out ∙ ap (λ (l : List ℕ). b ∷ l) (sets-overlaid text out)
+pub sets-start : (text out : List ℕ) → sets out 0 text ≡ take (length out) text ++ drop (length text) out
+sets-start [] [] = refl
+sets-start [] (x ∷ out) = refl
+sets-start (b ∷ text) [] = sets-none 1 text
+sets-start (b ∷ text) (x ∷ out) = sets-behind text 0 b out ∙ ap (λ (l : List ℕ). b ∷ l) (sets-start text out)
 
 -- ---- room
 pub room-first : {at : ℕ} (s t : List ℕ) → TextFits at (s ++ t) → TextFits at s

@@ -1,0 +1,6 @@
+// Bytes and numbers put into a lent buffer as text.
+mod putting;
+
+pub use putting::put_byte;
+pub use putting::put_bytes;
+pub use putting::put_decimal;
