@@ -18,7 +18,13 @@
  *     SULGRACH_SPENT             2   the limit was too small to tell
  *     SULGRACH_REFUSED + N   100+N   turned down for the reason N
  *
- * The reasons; 1 to 7 are judged in the order: under 4 bytes, 2, length, 3, 4, 5, 6, 7.
+ * Those of sulgrach_page:
+ *
+ *     SULGRACH_DONE              0   the page is in the output
+ *     SULGRACH_REFUSED + N   100+N   turned down for the reason N
+ *
+ * The reasons; 1 to 7 are judged in the order: under 4 bytes, 2, length, 3, 4, 5, 6, 7; those of sulgrach_page in the
+ * order: under 4 bytes, 2, length, 3, 4, 5, 6, 12, 13.
  *
  *      1   the plan has under 4 bytes, or a length other than its sizes ask for
  *      2   a size, or the number of cells, is out of bounds
@@ -33,6 +39,8 @@
  *      9   a line's point, set, label, rule, row or parent is out of range    (sulgrach_replay)
  *     10   a line is not what its rule gives                                  (sulgrach_replay)
  *     11   the last line does not make the first alarm wait for itself        (sulgrach_replay)
+ *     12   a cell of the table is above 999,999                               (sulgrach_page)
+ *     13   the output is too short for all lines                              (sulgrach_page)
  */
 #ifndef SULGRACH_H
 #define SULGRACH_H
@@ -48,6 +56,7 @@ extern "C" {
  * the numbers of an answer are 64 bits wide. */
 #define SULGRACH_INTERFACE 2
 
+#define SULGRACH_DONE 0
 #define SULGRACH_KEPT 0
 #define SULGRACH_BROKEN 1
 #define SULGRACH_SPENT 2
@@ -64,6 +73,9 @@ extern "C" {
 
 /* No listing is longer, in bytes. */
 #define SULGRACH_LISTING 57346
+
+/* No page is longer, in bytes. */
+#define SULGRACH_PAGE 360448
 
 /* Each call takes less stack than this, in bytes. Measured, not proved: a call itself took up to 1,936, and the first of
  * a program up to 4,552 where the dynamic linker looks for memset only then (-z lazy). */
@@ -110,6 +122,29 @@ uint32_t sulgrach_list(
 uint32_t sulgrach_replay(
     const uint8_t *plan, size_t plan_length,
     const uint8_t *listing, size_t listing_length);
+
+/* The page of a plan and a table, one that the check left or any other: one line for each of the plan's cells above 0, in
+ * the order of the cells; the answer is a code. A line has 21 characters and a newline:
+ *
+ *     columns  1 to 2    the point, right-aligned
+ *     columns  4 to 7    column 4 + i: i where link i is in the link set, else a full stop
+ *     columns  9 to 12   column 9 + j: + where fact j is yes, - where no, ? where unknown, else a full stop
+ *     column  14         the number of links in the link set
+ *     columns 16 to 21   the wait, right-aligned
+ *
+ * The other columns are blank. What is written:
+ *
+ *     done                  the page, from the start of `out` on, with no byte after it;
+ *                           numbers[0], if there is one: its length in bytes
+ *     refused               nothing
+ *
+ * Entries of `table` past the plan's cells are not looked at; bytes of `out` past the page are never written, nor are
+ * entries of `numbers` past the first. */
+uint32_t sulgrach_page(
+    const uint8_t *plan, size_t plan_length,
+    const uint32_t *table, size_t table_length,
+    uint8_t *out, size_t out_length,
+    uint64_t *numbers, size_t numbers_length);
 
 #ifdef __cplusplus
 }

@@ -1,6 +1,6 @@
 /* Prints how much stack a call of the library takes.
  *
- *     stack check|list|replay LIMIT PLAN...
+ *     stack check|list|replay|page|page12|page13 LIMIT PLAN...
  *
  * The call runs on a stack of its own, filled with a pattern beforehand; afterwards the pattern is gone as far down as
  * the call went. For each plan a line: the call's code, bytes of stack. The caller's arguments and its way into the call
@@ -17,8 +17,8 @@
 static uint64_t numbers[2], limit;
 static uint32_t first[SULGRACH_CELLS], second[SULGRACH_CELLS], code;
 static uint16_t lines[SULGRACH_CELLS];
-static uint8_t plan[801], out[SULGRACH_LISTING], stack[STACK];
-static size_t length;
+static uint8_t plan[801], out[SULGRACH_LISTING], text[SULGRACH_PAGE], stack[STACK];
+static size_t length, text_length;
 static ucontext_t outside, inside;
 
 static void check(void) {
@@ -33,6 +33,20 @@ static void list(void) {
 /* Of the listing that was made before. */
 static void replay(void) {
     code = sulgrach_replay(plan, length, out, (size_t)numbers[1]);
+}
+
+static void page(void) {
+    code = sulgrach_page(plan, length, first, SULGRACH_CELLS, text, text_length, numbers, 2);
+}
+
+/* A line for every cell; page12 and page13 are pages to be refused with 12 and 13. Not the table of a check, which would
+ * use memset before the page does. */
+static void fill(const char *word) {
+    for (size_t i = 0; i < SULGRACH_CELLS; i++)
+        first[i] = (uint32_t)i + 1;
+    if (strcmp(word, "page12") == 0)
+        first[1] = 1000000;
+    text_length = strcmp(word, "page13") == 0 ? 21 : sizeof text;
 }
 
 /* Not by memset: the call is to be the first to use it, since finding it then takes stack too. */
@@ -78,9 +92,12 @@ int main(int count, char **words) {
             used = measure(check);
         } else if (strcmp(words[1], "list") == 0) {
             used = measure(list);
-        } else {
+        } else if (strcmp(words[1], "replay") == 0) {
             list();
             used = measure(replay);
+        } else {
+            fill(words[1]);
+            used = measure(page);
         }
         printf("%u %zu\n", (unsigned)code, used);
     }

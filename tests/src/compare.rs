@@ -6,6 +6,7 @@ use crate::library;
 use crate::second::{self, Answer, Line, Listed, Refusal, Verdict, EVERY_PLAN};
 use std::cell::Cell;
 use std::fmt::Display;
+use std::hint::black_box;
 
 /// The lengths of the memory lent to a call.
 #[derive(Clone, Copy, Debug)]
@@ -32,11 +33,12 @@ struct Calls {
     checks: u64,
     listings: u64,
     replays: u64,
+    pages: u64,
 }
 
 thread_local! {
     /// Those of the test that runs on this thread.
-    static CALLS: Cell<Calls> = const { Cell::new(Calls { checks: 0, listings: 0, replays: 0 }) };
+    static CALLS: Cell<Calls> = const { Cell::new(Calls { checks: 0, listings: 0, replays: 0, pages: 0 }) };
 }
 
 fn add(change: impl FnOnce(&mut Calls)) {
@@ -50,8 +52,8 @@ fn add(change: impl FnOnce(&mut Calls)) {
 /// Prints how many calls a test has compared; it ends with this. The count
 /// starts again from 0, since the next test may run on the same thread.
 pub fn print_calls(test: &str) {
-    let Calls { checks, listings, replays } = CALLS.take();
-    println!("{test}: compared {checks} checks, {listings} listings, {replays} replays");
+    let Calls { checks, listings, replays, pages } = CALLS.take();
+    println!("{test}: compared {checks} checks, {listings} listings, {replays} replays, {pages} pages");
 }
 
 // ------------------------------------------------------------- comparing
@@ -80,6 +82,12 @@ fn dirty_halves(random: &mut Random, length: usize) -> Vec<u16> {
 
 fn dirty_bytes(random: &mut Random, length: usize) -> Vec<u8> {
     (0..length).map(|_| random.number() as u8).collect()
+}
+
+/// Bytes that are no character of a page, so that one left as it was is told
+/// from one written.
+fn unprinted_bytes(random: &mut Random, length: usize) -> Vec<u8> {
+    dirty_bytes(random, length).into_iter().map(|byte| byte | 128).collect()
 }
 
 /// The C interface's code of an answer.
@@ -239,4 +247,46 @@ pub fn replay(plan: &[u8], listing: &[u8], sample: &dyn Display) -> Refusal {
     );
     add(|calls| calls.replays += 1);
     expected
+}
+
+/// Prints a table both ways into an output of so many bytes, and compares the
+/// answer and all lent memory; returns the page, or the refusal of both.
+pub fn page(
+    random: &mut Random,
+    plan: &[u8],
+    table: &[u32],
+    output: usize,
+    sample: &dyn Display,
+) -> Result<Vec<u8>, Refusal> {
+    let case = format!("page, table of {} entries, output of {output} bytes, {sample}", table.len());
+    let output = unprinted_bytes(random, output);
+    let count = random.below(4);
+    let numbers = dirty_numbers(random, count);
+
+    let (mut output_expected, mut numbers_expected) = (output.clone(), numbers.clone());
+    let expected = second::page(plan, table, &mut output_expected);
+    if let (Ok(length), Some(number)) = (&expected, numbers_expected.first_mut()) {
+        *number = *length as u64;
+    }
+
+    let (plan_lent, table_lent) = (plan.to_vec(), table.to_vec());
+    let (mut output, mut numbers) = (output, numbers);
+    let found = library::page(&plan_lent, &table_lent, &mut output, &mut numbers);
+
+    assert_eq!(found, page_code(&expected), "code of the library and of the second checker; {case}");
+    same("numbers", &numbers, &numbers_expected, &case);
+    same("output", &output, &output_expected, &case);
+    // A compiler may take it for granted that what is lent to be read stays.
+    same("plan", black_box(&plan_lent), plan, &case);
+    same("table", black_box(&table_lent), table, &case);
+    add(|calls| calls.pages += 1);
+    output.truncate(expected?);
+    Ok(output)
+}
+
+fn page_code(expected: &Result<usize, Refusal>) -> u32 {
+    match expected {
+        Ok(_) => library::DONE,
+        Err(refusal) => library::refused(*refusal),
+    }
 }

@@ -6,7 +6,7 @@ pub mod header {
     include!(concat!(env!("OUT_DIR"), "/header.rs"));
 }
 
-use header::{sulgrach_check, sulgrach_list, sulgrach_replay};
+use header::{sulgrach_check, sulgrach_list, sulgrach_page, sulgrach_replay};
 
 // The types of the calls as they are relied on here. Types of functions must
 // agree exactly, so that a `const` too many or too few in the header does not
@@ -29,13 +29,15 @@ type List = unsafe extern "C" fn(
     usize,
 ) -> u32;
 type Replay = unsafe extern "C" fn(*const u8, usize, *const u8, usize) -> u32;
-const _: (Check, List, Replay) = (sulgrach_check, sulgrach_list, sulgrach_replay);
+type Page = unsafe extern "C" fn(*const u8, usize, *const u32, usize, *mut u8, usize, *mut u64, usize) -> u32;
+const _: (Check, List, Replay, Page) = (sulgrach_check, sulgrach_list, sulgrach_replay, sulgrach_page);
 
 pub const KEPT: u32 = header::SULGRACH_KEPT;
 pub const BROKEN: u32 = header::SULGRACH_BROKEN;
 pub const SPENT: u32 = header::SULGRACH_SPENT;
+pub const DONE: u32 = header::SULGRACH_DONE;
 
-/// The code of a refusal by check or listing.
+/// The code of a refusal by any call but replay.
 pub fn refused(refusal: u32) -> u32 {
     header::SULGRACH_REFUSED + refusal
 }
@@ -88,6 +90,23 @@ pub fn list(
             limit,
             index.as_mut_ptr(),
             index.len(),
+            out.as_mut_ptr(),
+            out.len(),
+            numbers.as_mut_ptr(),
+            numbers.len(),
+        )
+    }
+}
+
+/// The code of the answer; the page's length goes into `numbers[0]`.
+pub fn page(plan: &[u8], table: &[u32], out: &mut [u8], numbers: &mut [u64]) -> u32 {
+    // SAFETY: as for `check`; plan and table are only read.
+    unsafe {
+        sulgrach_page(
+            plan.as_ptr(),
+            plan.len(),
+            table.as_ptr(),
+            table.len(),
             out.as_mut_ptr(),
             out.len(),
             numbers.as_mut_ptr(),

@@ -22,7 +22,7 @@ pub const MOST_LINES: usize = 4_096;
 /// The most bytes that the program reads as a plan.
 pub const MOST_BYTES: usize = 800;
 
-/// The number of a refusal, 1 to 11.
+/// The number of a refusal, 1 to 13.
 pub type Refusal = u32;
 
 // ---------------------------------------------------------------- labels
@@ -674,6 +674,93 @@ fn entry_is_given(plan: &Plan, entry: &Entry, lines: &[Line]) -> bool {
     let ground = entry.ground();
     let second_as_due = uses_second_parent(ground.rule) || ground.second == 0;
     second_as_due && given(plan, lines, ground) == Some(entry.line())
+}
+
+// -------------------------------------------------------------- the page
+
+/// "With 12 a cell above 999,999." (2/13)
+const MOST_ON_A_PAGE: u32 = 999_999;
+
+/// "Lines of exactly 21 characters and a newline." (2/13)
+pub fn page_bytes(lines: usize) -> usize {
+    (21 + 1) * lines
+}
+
+/// The page of a plan and a table, any table. "The length is returned, and the
+/// output past it is untouched. It refuses, after 1 to 6, with 12 a cell above
+/// 999,999, and then with 13 an output too short for all lines, the output
+/// untouched both times." (2/13) Entries past the plan's cells are no cells.
+pub fn page(bytes: &[u8], table: &[u32], output: &mut [u8]) -> Result<usize, Refusal> {
+    let plan = read(bytes)?;
+    if table.len() < plan.cells() {
+        return Err(6);
+    }
+    let cells = &table[..plan.cells()];
+    if cells.iter().any(|&wait| wait > MOST_ON_A_PAGE) {
+        return Err(12);
+    }
+    let text = page_text(&plan, cells);
+    if output.len() < text.len() {
+        return Err(13);
+    }
+    output[..text.len()].copy_from_slice(&text);
+    Ok(text.len())
+}
+
+/// "Print a lent table as lines of exactly 21 characters and a newline, one for
+/// each cell above 0, in cell order." (2/13)
+fn page_text(plan: &Plan, cells: &[u32]) -> Vec<u8> {
+    let mut text = Vec::new();
+    for (cell, &wait) in cells.iter().enumerate() {
+        if wait > 0 {
+            text.extend(row_of(&plan.line_in(cell, wait)).0);
+            text.push(b'\n');
+        }
+    }
+    text
+}
+
+/// The 21 characters of a line on a page.
+struct Row([u8; 21]);
+
+impl Row {
+    /// Columns count from 1, as in the request.
+    fn put(&mut self, column: usize, character: char) {
+        self.0[column - 1] = character as u8;
+    }
+
+    /// The number in decimal, its last digit in this column.
+    fn put_number(&mut self, last_column: usize, number: i64) {
+        for (place, digit) in number.to_string().chars().rev().enumerate() {
+            self.put(last_column - place, digit);
+        }
+    }
+}
+
+/// "Columns 1 to 2 hold the point, right-aligned. Columns 4 to 7 hold i where
+/// link i is in the set, else a full stop. Columns 9 to 12 hold `+`, `-` or `?`
+/// where proposition 0 to 3 is yes, no or unknown, else a full stop. Column 14
+/// holds the number of links in the set. Columns 16 to 21 hold the wait,
+/// right-aligned. The others are blank." (2/13) A link or proposition that the
+/// plan does not have is in no set and no label.
+fn row_of(line: &Line) -> Row {
+    let mut row = Row([b' '; 21]);
+    row.put_number(2, line.point as i64);
+    for (i, character) in ['0', '1', '2', '3'].into_iter().enumerate() {
+        row.put(4 + i, if has_link(line.set, i) { character } else { '.' });
+    }
+    for j in 0..4 {
+        let character = match digit(line.label, j) {
+            1 => '+',
+            2 => '-',
+            3 => '?',
+            _ => '.',
+        };
+        row.put(9 + j, character);
+    }
+    row.put_number(14, (0..4).filter(|&i| has_link(line.set, i)).count() as i64);
+    row.put_number(21, line.wait);
+    row
 }
 
 // ----------------------------------------------------------- the program

@@ -2,13 +2,14 @@
 //! the library is called by in every other test.
 
 use sulgrach_tests::library::header::{CALLS, CONSTANTS, SULGRACH_STACK};
-use sulgrach_tests::second::{listing_bytes, EVERY_PLAN, MOST_CELLS, MOST_LINES, MOST_SECONDS};
+use sulgrach_tests::second::{listing_bytes, page_bytes, EVERY_PLAN, MOST_CELLS, MOST_LINES, MOST_SECONDS};
 
 #[test]
 fn every_constant() {
     let expected = [
         // The limit and the numbers of an answer are 64 bits wide.
         ("SULGRACH_INTERFACE", 2),
+        ("SULGRACH_DONE", 0),
         ("SULGRACH_KEPT", 0),
         ("SULGRACH_BROKEN", 1),
         ("SULGRACH_SPENT", 2),
@@ -17,6 +18,8 @@ fn every_constant() {
         ("SULGRACH_CELLS", MOST_CELLS as u64),
         ("SULGRACH_ROUNDS", EVERY_PLAN),
         ("SULGRACH_LISTING", listing_bytes(MOST_LINES) as u64),
+        // A line for every cell.
+        ("SULGRACH_PAGE", page_bytes(MOST_CELLS) as u64),
         // No figure of the specification: `stack.rs` measures it.
         ("SULGRACH_STACK", SULGRACH_STACK.into()),
     ];
@@ -25,5 +28,5 @@ fn every_constant() {
 
 #[test]
 fn every_call() {
-    assert_eq!(CALLS, ["sulgrach_check", "sulgrach_list", "sulgrach_replay"]);
+    assert_eq!(CALLS, ["sulgrach_check", "sulgrach_list", "sulgrach_replay", "sulgrach_page"]);
 }

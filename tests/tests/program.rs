@@ -13,7 +13,7 @@ use std::time::{Duration, Instant};
 use sulgrach_tests::generate::faults::{faulty, faulty_many_times, FAULTS};
 use sulgrach_tests::generate::{hex, long_cycles, samples, Class, Draft, Random};
 use sulgrach_tests::second::{self, Edge, Link, Verdict, EVERY_PLAN, MOST_BYTES, MOST_SECONDS};
-use sulgrach_tests::times;
+use sulgrach_tests::{plan_files, times};
 
 /// Longer than any plan used here takes.
 const PATIENCE: Duration = Duration::from_secs(60);
@@ -95,13 +95,7 @@ fn assert_prints(input: &[u8], expected: &str) {
 
 #[test]
 fn files_in_plans() {
-    let mut names: Vec<PathBuf> = fs::read_dir(repository().join("plans"))
-        .expect("the folder plans")
-        .map(|entry| entry.expect("a file").path())
-        .filter(|path| path.extension().is_some_and(|extension| extension == "plan"))
-        .collect();
-    names.sort();
-    assert!(names.len() >= 10, "only {} plans", names.len());
+    let names = plan_files();
     for name in &names {
         let expected = fs::read_to_string(name.with_extension("out")).expect("the text of each plan");
         assert_eq!(output_at_once(&fs::read(name).expect("a plan")), expected, "{}", name.display());

@@ -129,7 +129,7 @@ fn bounds_that_are_still_accepted() {
     compare::print_calls("bounds_that_are_still_accepted");
 }
 
-/// All three calls on a plan that may be refused. An accepted one is only run
+/// All four calls on a plan that may be refused. An accepted one is only run
 /// as far as it takes to see that both go on with it.
 fn every_call(random: &mut Random, plan: &[u8], case: &str) {
     let cells = random.pick(&[0, 20, MOST_CELLS, MOST_CELLS]);
@@ -143,4 +143,6 @@ fn every_call(random: &mut Random, plan: &[u8], case: &str) {
     compare::list(random, plan, lengths, limit, &case);
     compare::replay(plan, &SOME_LISTING, &case);
     compare::replay(plan, &[], &case);
+    let table = vec![random.pick(&[0, 1, 999_999, 1_000_000]); cells];
+    let _ = compare::page(random, plan, &table, lengths.output, &case);
 }

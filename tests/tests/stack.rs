@@ -7,8 +7,8 @@ use std::process::Command;
 use sulgrach_tests::generate::faults::{faulty, FAULTS};
 use sulgrach_tests::generate::{samples, slow_cycle, Class, Random};
 use sulgrach_tests::library::header::SULGRACH_STACK;
-use sulgrach_tests::library::{self, BROKEN, KEPT, SPENT};
-use sulgrach_tests::second;
+use sulgrach_tests::library::{refused, BROKEN, DONE, KEPT, SPENT};
+use sulgrach_tests::{plan_files, second};
 
 /// Enough rounds for the plans of the repository, and few enough for plans of
 /// many cells.
@@ -38,12 +38,7 @@ fn compile(binding: &str) -> PathBuf {
 /// Files of plans: those of the repository, generated ones, wide ones with
 /// links and facts, and refused ones.
 fn plans() -> Vec<PathBuf> {
-    let mut files: Vec<PathBuf> = fs::read_dir(tests_directory().join("../plans"))
-        .expect("the folder plans")
-        .map(|entry| entry.expect("a file").path())
-        .filter(|path| path.extension().is_some_and(|extension| extension == "plan"))
-        .collect();
-    files.sort();
+    let mut files = plan_files();
     let mut plans: Vec<Vec<u8>> = vec![slow_cycle(32, 16, 1_000_000, false)];
     for (class, count) in
         [(Class::Decisive, 20), (Class::Mixed, 20), (Class::Extreme, 10), (Class::Dense, 12)]
@@ -81,7 +76,7 @@ fn each_call_takes_less_than_the_header_says() {
     let files = plans();
     for binding in ["now", "lazy"] {
         let program = compile(binding);
-        for call in ["check", "list", "replay"] {
+        for call in ["check", "list", "replay", "page", "page12", "page13"] {
             let measured = measure(&program, call, &files);
             let most = measured.iter().map(|&(_, used)| used).max().expect("some plans");
             println!("{call}, memset bound {binding}: at most {most} bytes of stack, {} plans", files.len());
@@ -91,9 +86,12 @@ fn each_call_takes_less_than_the_header_says() {
                 assert!(*used < SULGRACH_STACK, "{call}, code {code}: {used} bytes, {}", file.display());
             }
             let expected = match call {
-                "check" => vec![KEPT, BROKEN, SPENT, library::refused(1), library::refused(5)],
-                "list" => vec![KEPT, BROKEN, SPENT, library::refused(1), library::refused(7)],
-                _ => vec![0, 1, 5, 8],
+                "check" => vec![KEPT, BROKEN, SPENT, refused(1), refused(5)],
+                "list" => vec![KEPT, BROKEN, SPENT, refused(1), refused(7)],
+                "replay" => vec![0, 1, 5, 8],
+                "page" => vec![DONE, refused(1), refused(5)],
+                "page12" => vec![refused(5), refused(12)],
+                _ => vec![refused(5), refused(13)],
             };
             for code in expected {
                 assert!(

@@ -1,3 +1,5 @@
 -- What the proofs of several functions use.
 mod CodeLaws
 mod ListLaws
+mod PageCodes
+mod CheckThenPage

@@ -6,7 +6,9 @@ use Rattle.plan.specs.Moments.{Moments}
 use Rattle.rounds.specs.Outcomes.{Outcome}
 use Rattle.rounds.specs.AfterCheck.{AfterCheck}
 use Rattle.listing.specs.AfterList.{AfterList}
-use Rattle.interface.specs.Codes.{codeOf, countInto, numbersInto}
+use Rattle.page.specs.Page.{PageOutcome}
+use Rattle.page.specs.AfterPage.{AfterPage}
+use Rattle.interface.specs.Codes.{codeOf, countInto, numbersInto, pageCode, pageNumbers}
 
 -- sulgrach_check answered with this code
 pub record AfterCheckCall (plan : List ℕ) (limit : ℕ) (first second rounds : Moments) (code : ℕ) : Type 0 where
@@ -22,3 +24,10 @@ pub record AfterListCall (plan : List ℕ) (limit : ℕ) (first second index out
   pub list : AfterList plan limit first second index out outcome bytes
   pub code-is : code ≡ codeOf outcome
   pub numbers-are : numbers .exit ≡ numbersInto outcome bytes (numbers .entry)
+
+-- sulgrach_page answered with this code
+pub record AfterPageCall (plan table : List ℕ) (out numbers : Moments) (code : ℕ) : Type 0 where
+  pub outcome : PageOutcome
+  pub page : AfterPage plan table out outcome
+  pub code-is : code ≡ pageCode outcome
+  pub numbers-are : numbers .exit ≡ pageNumbers outcome (numbers .entry)

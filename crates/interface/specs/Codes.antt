@@ -3,6 +3,7 @@ use mathlib.Core.List.{List}
 use Prim.Native.Nat.{ℕ, _+_}
 use lib.ListN.{set}
 use Rattle.rounds.specs.Outcomes.{Outcome, kept, broken, spent, refused}
+use Rattle.page.specs.Page as page
 
 -- 14.2: the code of an answer
 abbrev pub codeOf : Outcome → ℕ
@@ -28,3 +29,13 @@ lengthInto (refused n) bytes ns = ns
 -- 14.3: the listing's numbers
 abbrev pub numbersInto : Outcome → ℕ → List ℕ → List ℕ
 numbersInto o bytes ns = lengthInto o bytes (countInto o ns)
+
+-- 14.2: the code of a page's answer
+abbrev pub pageCode : page.PageOutcome → ℕ
+pageCode (page.printed n) = 0
+pageCode (page.refused n) = 100 + n
+
+-- 14.3: a page's numbers: its length in bytes in entry 0; untouched where refused
+abbrev pub pageNumbers : page.PageOutcome → List ℕ → List ℕ
+pageNumbers (page.printed n) ns = set ns 0 n
+pageNumbers (page.refused n) ns = ns

@@ -2,7 +2,9 @@
 mod answers;
 mod calls;
 mod list;
+mod paging;
 
 pub use calls::sulgrach_check;
 pub use calls::sulgrach_replay;
 pub use list::sulgrach_list;
+pub use paging::sulgrach_page;

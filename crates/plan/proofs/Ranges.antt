@@ -42,7 +42,7 @@ pub record Bounded (P : Plan) : Type 0 where
   pub horizon-in : P .horizon ≤ 32 * mostSeconds
 
 -- ---- tests of every row, and of a chain of refusals
-every-at : (f : ℕ → Bool) (n i : ℕ) → Is (every f n) → i < n → Is (f i)
+pub every-at : (f : ℕ → Bool) (n i : ℕ) → Is (every f n) → i < n → Is (f i)
 unfolding every
 every-at f zero i t h = absurd (omega arith)
 every-at f (suc n) i t h = go (every-at f n i (and-l (every f n) (f n) t)) (ℕ-discrete i n)

@@ -1,1 +1,1 @@
-mod Tests
+pub mod Tests

@@ -18,8 +18,8 @@ use Rattle.rounds_tables.proofs.RoundLaws.{row-within}
 use Rattle.rounds.specs.Rounds.{zeros}
 use Rattle.rounds.specs.Outcomes.{Outcome, kept, broken, spent, refused, pick, runOutcome, runTable, checkOutcome, checkTable}
 use Rattle.rounds.specs.Meaning.{servingLimit}
-use Rattle.rounds.proofs.Stopping.{Stops, Ends, Running, stops-or-runs, ends-at, ends-spent}
-use Rattle.rounds.proofs.Small.{run-length, table-high, table-small}
+use Rattle.rounds.proofs.Stopping.{Stops, Running, stops-or-runs, ends-at, ends-spent}
+use Rattle.rounds.proofs.Small.{run-length, run-small}
 use Rattle.rounds.proofs.Checking.{check-runs, check-leaves, refuses-or-runs}
 use Rattle.text.specs.Joined.{joined}
 use Rattle.text.proofs.Decimals.{decimal-length}
@@ -93,9 +93,9 @@ pick-number false r = refl
 
 module _ (bs F G : List ℕ) (limit : ℕ) where
   module _ (accepted : Accepted bs) where
-    -- the number is at most the limit, and the cells are small
-    run-fits : (numberOf (runOutcome (planOf bs) (zeros (planOf bs)) limit) ≤ limit) × Small (runTable (planOf bs) (zeros (planOf bs)) limit) (cells (planOf bs))
-    run-fits = go (stops-or-runs P T limit)
+    -- the number is at most the limit
+    run-number : numberOf (runOutcome (planOf bs) (zeros (planOf bs)) limit) ≤ limit
+    run-number = go (stops-or-runs P T limit)
       where
         P : Plan
         P = planOf bs
@@ -103,16 +103,15 @@ module _ (bs F G : List ℕ) (limit : ℕ) where
         T : List ℕ
         T = zeros (planOf bs)
 
-        ended : {o : Outcome} {A : List ℕ} → Ends P T limit o A → numberOf o ≤ limit → Small A (cells P) → (numberOf (runOutcome P T limit) ≤ limit) × Small (runTable P T limit) (cells P)
-        ended e h s = (rw (e .outcome-is) h, rw (e .table-is) s)
+        go : ((r : ℕ) × Stops P T limit r) ⊎ Running P T limit → numberOf (runOutcome P T limit) ≤ limit
+        go (inl (r, s)) = rw (ends-at P T limit (s .before) (s .within) (s .runs) (s .here) .outcome-is, pick-number) (s .within)
+        go (inr g) = rw (ends-spent P T limit g .outcome-is) (omega arith)
 
-        go : ((r : ℕ) × Stops P T limit r) ⊎ Running P T limit → (numberOf (runOutcome P T limit) ≤ limit) × Small (runTable P T limit) (cells P)
-        go (inl (r, s)) =
-            let d = accepted-bounded bs accepted in
-            ended (ends-at P T limit (s .before) (s .within) (s .runs) (s .here)) (rw pick-number (s .within)) (λ c k. omega (arith, d .horizon-in, d .largest-in, table-small P (accepted-well-formed bs accepted) (s .before) (s .runs) c k))
-        go (inr g) =
-            let d = accepted-bounded bs accepted in
-            ended (ends-spent P T limit g) (omega arith) (λ c k. omega (arith, d .horizon-in, d .largest-in, table-high P (accepted-well-formed bs accepted) limit g c k))
+    -- the cells are small
+    run-cells : Small (runTable (planOf bs) (zeros (planOf bs)) limit) (cells (planOf bs))
+    run-cells c k =
+        let d = accepted-bounded bs accepted in
+        omega (arith, d .horizon-in, d .largest-in, run-small (planOf bs) (accepted-well-formed bs accepted) limit c k)
 
     pub run-long : cells (planOf bs) ≤ length F → cells (planOf bs) ≤ length G → cells (planOf bs) ≤ length (checkTable bs F G limit F)
     run-long f g =
@@ -130,7 +129,7 @@ module _ (bs F G : List ℕ) (limit : ℕ) where
           let R = runTable (planOf bs) (zeros (planOf bs)) limit in
           let long : length R ≡ cells (planOf bs) = run-length (planOf bs) (accepted-well-formed bs a) (zeros (planOf bs)) (length-replicate (cells (planOf bs)) 0) limit in
           rw (check-runs bs F G limit a f g, check-leaves bs F G limit a f g F)
-          (shown-length (runOutcome (planOf bs) (zeros (planOf bs)) limit) (planOf bs) (R ++ drop (cells (planOf bs)) F) (omega (arith, run-fits a .0)) (d .points-in) (d .cells-in) (λ c k. rw (List·getD-append R (drop (cells (planOf bs)) F) 0 c (omega arith)) (run-fits a .1 c k)))
+          (shown-length (runOutcome (planOf bs) (zeros (planOf bs)) limit) (planOf bs) (R ++ drop (cells (planOf bs)) F) (omega (arith, run-number a)) (d .points-in) (d .cells-in) (λ c k. rw (List·getD-append R (drop (cells (planOf bs)) F) 0 c (omega arith)) (run-cells a c k)))
 
 -- the program's output of 196,608 bytes holds every text
 pub printed-length : (bs F G : List ℕ) → length (printed bs F G) ≤ 196608

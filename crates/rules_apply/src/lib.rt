@@ -7,6 +7,7 @@ mod sets;
 pub use application::apply;
 pub use application::gives_line;
 use rules::Line;
+pub use sets::contains;
 
 // What applying a rule gives.
 pub enum Applied {

@@ -34,6 +34,12 @@ pub decimal-more : (n : ℕ) → 10 ≤ n → decimal n ≡ decimal (n / 10) ++ 
 unfolding decimal
 decimal-more n h = digits-two n n h ∙ ap (λ (l : List ℕ). l ++ ((48 + n % 10) ∷ [])) (digits-enough n (suc (n / 10)) (n / 10) (omega arith) (omega arith))
 
+pub decimal-one-length : (n : ℕ) → n < 10 → 1 ≡ length (decimal n)
+decimal-one-length n h = sym (ap length (decimal-one n h))
+
+pub decimal-more-length : (n : ℕ) → 10 ≤ n → length (decimal n) ≡ 1 + length (decimal (n / 10))
+decimal-more-length n h = rw (decimal-more n h, length-append) (omega arith)
+
 -- a number below 10 to the k + 1 has at most k + 1 digits
 pub decimal-length : (k n : ℕ) → n < 10 ^ suc k → length (decimal n) ≤ suc k
 decimal-length zero n h = rw (decimal-one n (omega arith)) (omega arith)

@@ -1,4 +1,4 @@
--- Texts one after the other (13.3).
+-- Texts one after the other (13.3, 18.1).
 use mathlib.Core.List.{List, [], _++_}
 use Prim.Native.Nat.{ℕ, zero, suc}
 

@@ -1,0 +1,5 @@
+mod ColumnLaws
+mod LineLaws
+mod PageLaws
+pub mod AnswerLaws
+mod BenchPage

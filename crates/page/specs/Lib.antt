@@ -1,0 +1,4 @@
+pub mod Columns
+pub mod Page
+pub mod AfterPage
+pub mod Lent
