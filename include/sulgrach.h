@@ -134,7 +134,7 @@ uint32_t sulgrach_replay(
  *
  * The other columns are blank. What is written:
  *
- *     done                  the page, from the start of `out` on, with no byte after it;
+ *     done                  the page, from the start of `out` on, without a 0 after it;
  *                           numbers[0], if there is one: its length in bytes
  *     refused               nothing
  *

@@ -10,7 +10,7 @@ fn link_column(set: usize, i: usize) -> u8
     ensures { λ r. ⌜ r ≡ linkColumn set i ⌝ }
 {
     if contains(set, i) {
-        return 48 + i as u8;
+        return b'0' + i as u8;
     }
     b'.'
 }
@@ -41,7 +41,7 @@ fn count_column(set: usize) -> u8
     requires { ⌜ set < 16 ⌝ }
     ensures { λ r. ⌜ r ≡ 48 + linksIn set ⌝ }
 {
-    48 + u32::count_ones(set as u32) as u8
+    b'0' + u32::count_ones(set as u32) as u8
 }
 
 // Columns 3 to 15.

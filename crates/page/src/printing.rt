@@ -63,6 +63,7 @@ pub fn page(plan: &[u8], table: &[u32], out: &mut [u8]) -> Paged
     if table.len() < end {
         return Paged::Refused(SHORT_TABLE);
     }
+    // Both are known before either is told, so that the two tests alone say which comes first.
     let fits = waits_fit(table, end);
     let length = LINE * count_lines(table, end);
     if !fits {
