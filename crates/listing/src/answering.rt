@@ -3,6 +3,7 @@ use crate::Listed;
 use listing_write::count_lines;
 use listing_write::write_listing;
 use plan::cells;
+use plan::widen_word;
 use plan_refusal::refusal;
 use rounds::Answer;
 use rounds::check;
@@ -58,7 +59,7 @@ fn lines_of(plan: &[u8], first: &mut [u32], second: &mut [u32], r: u64) -> usize
     ensures { λ _. ⌜ after second ≡ before second ⌝ }
 {
     let end = cells(plan);
-    count_lines(plan, &mut first[..end], &mut second[..end], r)
+    widen_word(count_lines(plan, &mut first[..end], &mut second[..end], r))
 }
 
 // Where the plan broke in round r. Refusal 7 is decided before anything is written.

@@ -1,4 +1,4 @@
-// How many lines the listing of a broken plan has, counted as far as 4,097.
+// How many lines the listing of a broken plan has, counted in 16 bits as far as 4,097.
 use plan::cells;
 use plan::horizon as horizon_of;
 use plan::plain_marks;
@@ -18,9 +18,9 @@ ghost use Rattle.listing_write.specs.BrokenPlans.{BrokenPlan};
 ghost use Rattle.listing_write.specs.Progress.{roundLines, countWith, Exact, RoundsLent};
 
 // Nothing needs the count beyond 4,097.
-const MANY: usize = 4097;
+const MANY: u16 = 4097;
 
-fn one_more(lines: usize) -> usize
+fn one_more(lines: u16) -> u16
     requires { ⌜ lines ≤ 4097 ⌝ }
     ensures { λ r. ⌜ r ≡ min 4097 (lines + 1) ⌝ }
 {
@@ -31,7 +31,7 @@ fn one_more(lines: usize) -> usize
 }
 
 // Lines counted so far and the cells that a round raised.
-fn count_raised(first: &[u32], second: &[u32], lines: usize) -> usize
+fn count_raised(first: &[u32], second: &[u32], lines: u16) -> u16
     requires { ⌜ (length (now second) ≡ length (now first)) × (lines ≤ 4097) ⌝ }
     ensures { λ r. ⌜ ((P : Plan) → r ≡ countWith lines (raisedLines P (before first) (before second) (length (before first)))) ⌝ }
 {
@@ -51,8 +51,8 @@ fn count_round(
     horizon: u64,
     first: &mut [u32],
     second: &mut [u32],
-    lines: usize,
-) -> usize
+    lines: u16,
+) -> u16
     requires { ⌜ Exact (now plan) (now marks) horizon (now first) (now second) × AtMost 4000000000 (now first) × (lines ≤ 4097) ⌝ }
     ensures { λ r. ⌜ r ≡ countWith lines (roundLines (planOf (before plan)) (before first)) ⌝ }
     ensures { λ _. ⌜ after first ≡ next (planOf (before plan)) (before first) ⌝ }
@@ -75,7 +75,7 @@ fn count_rounds(
     first: &mut [u32],
     second: &mut [u32],
     rounds: u64,
-) -> usize
+) -> u16
     requires { ⌜ RoundsLent (now plan) (now marks) horizon (now first) (now second) rounds ⌝ }
     ensures { λ r. ⌜ r ≡ countWith 1 (linesTo (planOf (before plan)) rounds) ⌝ }
     ensures { λ _. ⌜ after first ≡ table (planOf (before plan)) rounds ⌝ }
@@ -90,7 +90,7 @@ fn count_rounds(
 }
 
 // The lines of the listing of a plan that breaks in round r. Both tables end with that round's table.
-pub fn count_lines(plan: &[u8], first: &mut [u32], second: &mut [u32], r: u64) -> usize
+pub fn count_lines(plan: &[u8], first: &mut [u32], second: &mut [u32], r: u64) -> u16
     requires { ⌜ BrokenPlan (now plan) (now first) (now second) r ⌝ }
     ensures { λ n. ⌜ n ≡ min 4097 (length (listingLines (planOf (before plan)) r)) ⌝ }
     ensures { λ _. ⌜ after first ≡ table (planOf (before plan)) r ⌝ }

@@ -1,4 +1,5 @@
--- The first cells of both tables are lent, and come back as they were.
+-- The first cells of both tables are lent, and come back as they were; the count is widened.
+use mathlib.Core.Path.{_∙_}
 use denote.Ref.{now}
 use Rattle.plan.specs.Plan.{cells}
 use Rattle.plan.proofs.Ranges.{sizes-few}
@@ -34,6 +35,9 @@ count-lines-requires c κs =
     let e = c .before .before .cells in
     record { accepted = s .pre .accepted; first-length = first-cut (now (s .args .plan)) (now (s .args .first)) (now (s .args .second)) (s .args .r) (e .result) (s .pre) (e .ensures) .1; second-length = second-cut (now (s .args .plan)) (now (s .args .first)) (now (s .args .second)) (s .args .r) (e .result) (s .pre) (e .ensures) .1; breaks = s .pre .breaks }
 
+widen-word-requires : tie.Need-widen-word-requires
+widen-word-requires c κs = search needs
+
 same-length : tie.Need-same-length
 same-length c = search needs
 
@@ -42,10 +46,11 @@ same-length-2 c = search needs
 
 returns : tie.Need-returns
 returns c =
-    let s = c .before .before .before .before .before .before .before .before .before .before .before in
-    let e = c .before .before .before .before .before .before .before .cells in
-    let k = c .before .before .before .before .count-lines .ensures in
-    (k .0, (first-back (now (s .args .plan)) (now (s .args .first)) (now (s .args .second)) (s .args .r) (e .result) (s .pre) (e .ensures) _ (k .1 .0), second-back (now (s .args .plan)) (now (s .args .first)) (now (s .args .second)) (s .args .r) (e .result) (s .pre) (e .ensures) _ (k .1 .1 .0)))
+    let n = c .before .before .before .before .before in
+    let e = n .before .before .before .cells in
+    let s = n .before .before .before .before .before .before .before in
+    let k = n .count-lines .ensures in
+    (c .widen-word .ensures .0 ∙ k .0, (first-back (now (s .args .plan)) (now (s .args .first)) (now (s .args .second)) (s .args .r) (e .result) (s .pre) (e .ensures) _ (k .1 .0), second-back (now (s .args .plan)) (now (s .args .first)) (now (s .args .second)) (s .args .r) (e .result) (s .pre) (e .ensures) _ (k .1 .1 .0)))
 
 pub lines-of-spec : {M : Type 1} → statement M
 lines-of-spec =
@@ -57,6 +62,7 @@ lines-of-spec =
     slice-relend-prefix-count-lines-2
     slice-aggregate-count-lines-2
     count-lines-requires
+    widen-word-requires
     same-length
     same-length-2
     returns)
