@@ -3,8 +3,8 @@
 pub mod faults;
 pub mod listings;
 
-use crate::second::{self, Edge, Link, Verdict, MOST_CELLS, MOST_SECONDS};
-use std::fmt;
+use crate::second::{self, Edge, Link, Plan, Verdict, MOST_CELLS, MOST_SECONDS};
+use std::{fmt, iter};
 
 // ---------------------------------------------------------------- random
 
@@ -148,6 +148,9 @@ pub struct Draft {
 /// The most edges that a plan may have.
 const MOST_EDGES: usize = 128;
 
+/// The most points that a plan may have.
+const MOST_POINTS: usize = 32;
+
 impl Draft {
     /// The plan's file: sizes, observing points, then the two arrays.
     pub fn bytes(&self) -> Vec<u8> {
@@ -170,6 +173,12 @@ impl Draft {
     fn longest(&self) -> i64 {
         let weights = self.edges.iter().map(|edge| edge.weight.abs());
         weights.chain(self.links.iter().map(|link| link.most)).max().unwrap_or(0)
+    }
+
+    /// Adds a point, and returns its number.
+    fn add_point(&mut self) -> usize {
+        self.points += 1;
+        self.points - 1
     }
 
     /// Adds an edge if the plan has room for it.
@@ -678,4 +687,105 @@ pub fn slow_cycle(points: usize, turn: usize, rounds: i64, both: bool) -> Vec<u8
 /// points took before timers became long.
 pub fn long_cycles() -> [Vec<u8>; 2] {
     [slow_cycle(5, 2, 80_000, false), slow_cycle(6, 3, 80_000, true)]
+}
+
+// ------------------------------------- plans by the lines of their listings
+
+/// How many cells each round raises, also past the one that breaks the plan.
+pub fn raised(plan: &Plan) -> impl Iterator<Item = usize> + '_ {
+    let mut table = vec![0; plan.cells()];
+    iter::repeat_with(move || {
+        let next = second::next_table(plan, &table);
+        let count = (0..plan.cells()).filter(|&cell| next[cell] > table[cell]).count();
+        table = next;
+        count
+    })
+}
+
+/// A plan of so many rounds and lines, if points enough can be had. A clock
+/// breaks it, and many points go with the clock under every plain label, so that
+/// a round raises many cells. The last edge is the clock's bound.
+pub fn in_step(propositions: usize, rounds: usize, lines: usize) -> Draft {
+    let observing = (1..=propositions).collect();
+    let mut draft = Draft { points: 1 + propositions, observing, links: vec![], edges: vec![] };
+    let clock = add_clock(&mut draft);
+    let leader = draft.add_point();
+    let labels = (0..1 << (2 * propositions)).map(|label: u16| label as u8);
+    labels.filter(|&label| second::plain(label)).for_each(|label| draft.after(leader, clock, 1, label));
+
+    let cells = 3_usize.pow(propositions as u32);
+    // All rounds but the last raise the clock's two points and the leader. One
+    // more line sets the horizon, and the last one is Z's.
+    let missing = lines - (2 + cells) * (rounds - 1) - 2;
+    let missing = add_followers(&mut draft, leader, cells, rounds, missing);
+    add_followers(&mut draft, clock, 1, rounds, missing);
+    draft.within(clock, 0, rounds as i64 - 2, 0);
+    draft
+}
+
+/// A plan of so many lines, drawn at random: links, facts and edges, most of
+/// which go with a clock, and the clock breaks it. It has fewer lines where more
+/// points would be needed to make up the number.
+pub fn driven(random: &mut Random, n: usize, p: usize, k: usize, lines: usize) -> Draft {
+    let mut draft = frame(random, n, p, k, 4);
+    // Z would wait for the end of a link that starts there.
+    for row in 0..k {
+        draft.links[row].activation = draft.later_point(random, draft.links[row].end);
+    }
+    let clock = add_clock(&mut draft);
+    for point in (1..n).cycle().take(n - 1 + random.below(2 * n)) {
+        let earlier = if random.chance(50) { clock } else { random.between(1, n as i64 - 1) as usize };
+        let label = draft.any_label(random, 30);
+        draft.after(point, earlier, random.between(-1, 3), label);
+    }
+
+    let (rounds, missing) = rounds_within(&draft, lines);
+    add_followers(&mut draft, clock, 1, rounds, missing);
+    for _ in 0..random.between(1, 3) {
+        let label = draft.any_label(random, 30);
+        draft.within(clock, 0, rounds as i64 - 2, label);
+    }
+    random.shuffle(&mut draft.edges);
+    draft
+}
+
+/// Adds a clock: two points that wait for each other, so that each round raises
+/// both by a second, and one that is raised once and sets a far horizon. Returns
+/// the first of the three.
+fn add_clock(draft: &mut Draft) -> usize {
+    let [clock, other, far] = [(); 3].map(|()| draft.add_point());
+    draft.after(clock, other, 1, 0);
+    draft.after(other, clock, 1, 0);
+    draft.after(far, 0, MOST_SECONDS, 0);
+    clock
+}
+
+/// Adds points that follow a leader, which each round but the last raises by a
+/// second in so many cells. They start so late as to have so many lines
+/// together; returns how many are still missing.
+fn add_followers(draft: &mut Draft, leader: usize, cells: usize, rounds: usize, lines: usize) -> usize {
+    let mut missing = lines;
+    while missing >= cells && draft.points < MOST_POINTS {
+        // The first round does not raise a follower yet.
+        let raises = (missing / cells).min(rounds - 2);
+        let follower = draft.add_point();
+        draft.within(leader, follower, (rounds - 2 - raises) as i64, 0);
+        missing -= cells * raises;
+    }
+    missing
+}
+
+/// The most rounds after which a plan can be broken with no more than so many
+/// lines, and how many are missing then.
+fn rounds_within(draft: &Draft, lines: usize) -> (usize, usize) {
+    let plan = second::read(&draft.bytes()).expect("a draft is an accepted plan");
+    // The last round has one line.
+    let (mut rounds, mut missing) = (1, lines - 1);
+    for count in raised(&plan) {
+        if count > missing {
+            break;
+        }
+        (rounds, missing) = (rounds + 1, missing - count);
+    }
+    (rounds, missing)
 }

@@ -1,9 +1,11 @@
 //! The listing: its lines, the 16-bit table, its length, refusal 7, and that
 //! both replays accept what is handed over.
 
+use std::fmt::Display;
 use sulgrach_tests::compare::{self, Lengths, LONGEST_LISTING};
-use sulgrach_tests::generate::{hex, long_cycles, samples, Class, Draft, Random, Sample};
-use sulgrach_tests::second::{self, listing_bytes, Edge, Verdict, EVERY_PLAN, MOST_LINES, MOST_SECONDS};
+use sulgrach_tests::generate::{driven, hex, in_step, long_cycles, raised, samples};
+use sulgrach_tests::generate::{Class, Draft, Random, Sample};
+use sulgrach_tests::second::{self, listing_bytes, Edge, Verdict, EVERY_PLAN, MOST_LINES};
 use sulgrach_tests::times;
 
 #[test]
@@ -34,17 +36,134 @@ fn extreme_slow_and_dense_plans() {
     compare::print_calls("extreme_slow_and_dense_plans");
 }
 
+/// One line a round: as many rounds as lines, or one fewer where a fourth point
+/// is raised in the first round too.
 #[test]
 fn listings_about_as_long_as_allowed() {
-    let bounded = [(1, 2_046, 4_095), (2, 2_046, 4_096), (1, 2_047, 4_097), (2, 2_047, 4_098)];
-    for (point, most, lines) in bounded {
-        with_lines(lines, &two_in_turns(4, MOST_SECONDS, Some((point, most))));
+    // Points, a bound on one of them, lines.
+    let bounded = [
+        (3, (2, 2_046), 4_095),
+        (3, (1, 22_046), 4_096),
+        (3, (2, 2_047), 4_097),
+        (3, (1, 22_047), 4_098),
+        (4, (1, 22_045), 4_095),
+        (4, (2, 2_046), 4_096),
+        (4, (1, 22_046), 4_097),
+        (4, (2, 2_047), 4_098),
+    ];
+    for (points, bound, lines) in bounded {
+        let draft = two_in_turns(points, 20_000, Some(bound));
+        assert_eq!(into_every_output(&draft, &"two in turns"), (lines, lines + 3 - points));
     }
-    // So many lines that 16 bits would take them for one or three.
-    for (points, longest, lines) in [(7, 4_681, 65_537), (8, 4_096, 65_539)] {
-        with_lines(lines, &two_in_turns(points, longest, None));
+    // So many lines that 16 bits would take them for none or one, and as many
+    // rounds.
+    for (points, longest, lines) in [(3, 16_383, 65_536), (4, 10_922, 65_537)] {
+        let draft = two_in_turns(points, longest, None);
+        assert_eq!(into_every_output(&draft, &"two in turns"), (lines, 65_536));
     }
     compare::print_calls("listings_about_as_long_as_allowed");
+}
+
+/// The 4,096th line has others of its round before it and often after it.
+#[test]
+fn listings_about_as_long_with_many_lines_a_round() {
+    for (propositions, rounds) in [(0, 1_300), (0, 170), (1, 70), (2, 24), (3, 12), (4, 9)] {
+        // Of the bytes of the last two, 16 bits would leave 0 and 14.
+        for lines in (4_090..=4_103).chain([4_681, 4_682]) {
+            list_in_step(propositions, rounds, lines);
+        }
+        // A round ends with the 4,096th line, and more rounds follow before Z's.
+        for more in [1, 2, 9] {
+            let mut draft = in_step(propositions, rounds, 4_097);
+            draft.edges.last_mut().expect("the clock's bound").weight += more as i64;
+            assert_eq!(into_every_output(&draft, &"in step").1, rounds + more);
+        }
+    }
+    compare::print_calls("listings_about_as_long_with_many_lines_a_round");
+}
+
+/// A counter of 16 bits, or of some fewer or more, would take so many lines for
+/// few, and the rounds alone are no reason to refuse.
+#[test]
+fn more_lines_than_16_bits_count() {
+    // Bits, propositions, rounds.
+    let shapes = [
+        (13, 2, 80),
+        (14, 2, 120),
+        (15, 0, 2_000),
+        (16, 0, 4_096),
+        (16, 1, 1_200),
+        (16, 2, 400),
+        (16, 4, 45),
+        (17, 3, 300),
+    ];
+    for (bits, propositions, rounds) in shapes {
+        assert!(rounds <= MOST_LINES);
+        for left in [4_097, 4_096, 4_095, 700, 2, 1, 0] {
+            list_in_step(propositions, rounds, (1 << bits) + left);
+        }
+    }
+    // Over a million.
+    list_in_step(3, 2_400, (1 << 20) + 4_096);
+    compare::print_calls("more_lines_than_16_bits_count");
+}
+
+#[test]
+fn generated_listings_about_as_long_as_allowed() {
+    let count = times(200);
+    println!("plans of {count} seeds from 0");
+    let (mut allowed, mut refused) = (0, 0);
+    for seed in 0..count {
+        let mut random = Random::new(seed);
+        let points = random.between(8, 14) as usize;
+        let lines = random.between(4_090, 4_103) as usize;
+        match drawn(&mut random, points, lines, seed).0 {
+            4_090..=4_096 => allowed += 1,
+            4_097..=4_103 => refused += 1,
+            _ => (),
+        }
+    }
+    println!("{allowed} listings of 4,090 to 4,096 lines, {refused} of 4,097 to 4,103");
+    assert!(allowed > count / 3 && refused > count / 3, "{allowed} and {refused} of {count}");
+    compare::print_calls("generated_listings_about_as_long_as_allowed");
+}
+
+/// What 16 bits leave is again a few lines fewer or more than allowed, or next
+/// to none, or between.
+#[test]
+fn generated_listings_longer_than_16_bits_count() {
+    let count = times(30);
+    println!("plans of {count} seeds from 0");
+    let mut few_rounds = 0;
+    for seed in 0..count {
+        let mut random = Random::new(seed);
+        let points = random.between(16, 22) as usize;
+        let (least, most) = random.pick(&[(0, 3), (4, 4_089), (4_090, 4_103)]);
+        let lines = 65_536 + random.between(least, most) as usize;
+        let (lines, rounds) = drawn(&mut random, points, lines, seed);
+        few_rounds += u64::from((65_536..=69_639).contains(&lines) && rounds <= MOST_LINES);
+    }
+    println!("{few_rounds} listings of 65,536 to 69,639 lines, of 4,096 rounds or fewer");
+    assert!(few_rounds > count * 3 / 4, "only {few_rounds} of {count}");
+    compare::print_calls("generated_listings_longer_than_16_bits_count");
+}
+
+/// Points have so many cells here that single rounds raise thousands, in some
+/// plans over 4,096.
+#[test]
+fn generated_listings_with_the_most_lines_a_round() {
+    let count = times(40);
+    println!("plans of {count} seeds from 0");
+    let mut most = 0;
+    for seed in 0..count {
+        let draft = driven(&mut Random::new(seed), 24, 3, 3, 8_191);
+        let (_, rounds) = into_every_output(&draft, &format!("seed {seed}"));
+        let plan = second::read(&draft.bytes()).expect("an accepted plan");
+        most = raised(&plan).take(rounds - 1).fold(most, usize::max);
+    }
+    println!("up to {most} lines a round");
+    assert!(most > MOST_LINES, "only {most}");
+    compare::print_calls("generated_listings_with_the_most_lines_a_round");
 }
 
 /// The last round decides between spent and refusal 7; no output serves.
@@ -66,29 +185,60 @@ fn more_rounds_than_16_bits_count() {
     compare::print_calls("more_rounds_than_16_bits_count");
 }
 
-/// Points 1 and 2 wait for each other, so that each round raises one cell;
-/// point 3 is raised once and sets the horizon. A bound on point 1 or 2, or
-/// else the horizon, breaks the plan.
-fn two_in_turns(points: usize, longest: i64, bound: Option<(usize, i64)>) -> Vec<u8> {
+/// Points 1 and 2 wait for each other, so that each round raises one cell; the
+/// points past them are raised once, in the first round. A bound on point 1 or
+/// 2, or else the horizon, breaks the plan.
+fn two_in_turns(points: usize, longest: i64, bound: Option<(usize, i64)>) -> Draft {
     let edge = |from, to, weight| Edge { from, to, weight, label: 0 };
-    let mut edges = vec![edge(1, 2, -1), edge(2, 1, 0), edge(3, 0, -longest)];
+    let mut edges = vec![edge(1, 2, -longest), edge(2, 1, longest - 1)];
+    edges.extend((3..points).map(|point| edge(point, 0, -1)));
     edges.extend(bound.map(|(point, most)| edge(0, point, most)));
-    Draft { points, observing: vec![], links: vec![], edges }.bytes()
+    Draft { points, observing: vec![], links: vec![], edges }
 }
 
-/// Lists a plan of so many lines into an output one byte too short, just long
-/// enough, and longer; over 4,096 lines all are refused.
-fn with_lines(lines: usize, plan: &[u8]) {
-    let case = format!("{lines} lines, plan {}", hex(plan));
-    let accepted = second::read(plan).expect("an accepted plan");
-    assert_eq!(second::run_and_list(&accepted, EVERY_PLAN).lines.len(), lines, "{case}");
+/// Lists a plan that is made to have so many rounds and lines.
+fn list_in_step(propositions: usize, rounds: usize, lines: usize) {
+    let draft = in_step(propositions, rounds, lines);
+    assert_eq!(into_every_output(&draft, &"in step"), (lines, rounds));
+}
+
+/// Lists a plan drawn at random, with so many points before more are added;
+/// returns its numbers of lines and of rounds.
+fn drawn(random: &mut Random, points: usize, lines: usize, seed: u64) -> (usize, usize) {
+    let (p, k) = random.pick(&[(0, 0), (1, 0), (0, 1), (1, 1), (2, 1), (1, 2), (2, 2), (1, 3), (3, 1)]);
+    into_every_output(&driven(random, points, p, k, lines), &format!("seed {seed}"))
+}
+
+/// Lists a broken plan into an output one byte too short, just long enough, and
+/// longer. Over 4,096 lines all are refused, be the output long enough for what
+/// 16 bits leave of them, for 4,096, for 4,097, or for all. Returns the numbers
+/// of lines and of rounds.
+fn into_every_output(draft: &Draft, origin: &dyn Display) -> (usize, usize) {
+    let bytes = draft.bytes();
+    let plan = second::read(&bytes).expect("an accepted plan");
+    let listed = second::run_and_list(&plan, EVERY_PLAN);
+    let (lines, rounds) = (listed.lines.len(), listed.answer.rounds);
+    let length = listing_bytes(lines);
+    let mut outputs = if lines <= MOST_LINES {
+        vec![length - 1, length, length + 1_000]
+    } else {
+        vec![listing_bytes(lines % 65_536), LONGEST_LISTING, listing_bytes(MOST_LINES + 1), length]
+    };
+    // The longest comes first: what a wrong library writes has room there.
+    outputs.sort();
+    outputs.dedup();
+    outputs.reverse();
+
+    let case = format!("{lines} lines, {rounds} rounds, {origin}, plan {}", hex(&bytes));
     let mut random = Random::new(lines as u64);
-    for output in [listing_bytes(lines) - 1, listing_bytes(lines), listing_bytes(lines) + 1_000] {
-        let lengths = Lengths { output, ..Lengths::ample(&mut random, accepted.cells(), 0) };
-        let listing = compare::list(&mut random, plan, lengths, EVERY_PLAN, &case);
-        let handed_over = lines <= MOST_LINES && output >= listing_bytes(lines);
+    for output in outputs {
+        let lengths = Lengths { output, ..Lengths::ample(&mut random, plan.cells(), 0) };
+        let limit = random.pick(&[rounds, EVERY_PLAN]);
+        let listing = compare::list(&mut random, &bytes, lengths, limit, &case);
+        let handed_over = lines <= MOST_LINES && output >= length;
         assert_eq!(listing.is_some(), handed_over, "{output} bytes of output, {case}");
     }
+    (lines, rounds as usize)
 }
 
 /// Lists a plan with the limit too small, just large enough, and larger than 32
