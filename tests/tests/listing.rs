@@ -36,8 +36,8 @@ fn extreme_slow_and_dense_plans() {
     compare::print_calls("extreme_slow_and_dense_plans");
 }
 
-/// One line a round: as many rounds as lines, or one fewer where a fourth point
-/// is raised in the first round too.
+/// One line a round, and in the first also one for each point past the third, so
+/// that there are as many rounds as lines or a few fewer.
 #[test]
 fn listings_about_as_long_as_allowed() {
     // Points, a bound on one of them, lines.
@@ -55,11 +55,11 @@ fn listings_about_as_long_as_allowed() {
         let draft = two_in_turns(points, 20_000, Some(bound));
         assert_eq!(into_every_output(&draft, &"two in turns"), (lines, lines + 3 - points));
     }
-    // So many lines that 16 bits would take them for none or one, and as many
-    // rounds.
-    for (points, longest, lines) in [(3, 16_383, 65_536), (4, 10_922, 65_537)] {
+    // So many lines that 16 bits would take them for none, one or seven, and
+    // more than 4,096 rounds.
+    for (points, longest, lines) in [(3, 16_383, 65_536), (4, 10_922, 65_537), (8, 4_681, 65_543)] {
         let draft = two_in_turns(points, longest, None);
-        assert_eq!(into_every_output(&draft, &"two in turns"), (lines, 65_536));
+        assert_eq!(into_every_output(&draft, &"two in turns"), (lines, lines + 3 - points));
     }
     compare::print_calls("listings_about_as_long_as_allowed");
 }
