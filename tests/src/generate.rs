@@ -702,74 +702,74 @@ pub fn raised(plan: &Plan) -> impl Iterator<Item = usize> + '_ {
     })
 }
 
-/// A plan of so many rounds and lines, if points enough can be had. A clock
-/// breaks it, and many points go with the clock under every plain label, so that
-/// a round raises many cells. The last edge is the clock's bound.
-pub fn in_step(propositions: usize, rounds: usize, lines: usize) -> Draft {
+/// A plan of so many rounds and lines, if points enough can be had. A cycle
+/// breaks it, and many points wait for the cycle under every plain label, so that
+/// a round raises many cells. The last edge is the bound on the cycle.
+pub fn with_rounds_and_lines(propositions: usize, rounds: usize, lines: usize) -> Draft {
     let observing = (1..=propositions).collect();
     let mut draft = Draft { points: 1 + propositions, observing, links: vec![], edges: vec![] };
-    let clock = add_clock(&mut draft);
-    let leader = draft.add_point();
+    let on_cycle = add_cycle(&mut draft);
+    let labelled = draft.add_point();
     let labels = (0..1 << (2 * propositions)).map(|label: u16| label as u8);
-    labels.filter(|&label| second::plain(label)).for_each(|label| draft.after(leader, clock, 1, label));
+    labels.filter(|&label| second::plain(label)).for_each(|label| draft.after(labelled, on_cycle, 1, label));
 
     let cells = 3_usize.pow(propositions as u32);
-    // All rounds but the last raise the clock's two points and the leader. One
-    // more line sets the horizon, and the last one is Z's.
+    // All rounds but the last raise the cycle's two points and the labelled one.
+    // One more line sets the horizon, and the last one is Z's.
     let missing = lines - (2 + cells) * (rounds - 1) - 2;
-    let missing = add_followers(&mut draft, leader, cells, rounds, missing);
-    add_followers(&mut draft, clock, 1, rounds, missing);
-    draft.within(clock, 0, rounds as i64 - 2, 0);
+    let missing = add_waiting(&mut draft, labelled, cells, rounds, missing);
+    add_waiting(&mut draft, on_cycle, 1, rounds, missing);
+    draft.within(on_cycle, 0, rounds as i64 - 2, 0);
     draft
 }
 
-/// A plan of so many lines, drawn at random: links, facts and edges, most of
-/// which go with a clock, and the clock breaks it. It has fewer lines where more
-/// points would be needed to make up the number.
-pub fn driven(random: &mut Random, n: usize, p: usize, k: usize, lines: usize) -> Draft {
+/// A plan of so many lines, drawn at random: links, facts and edges, many of
+/// them to a cycle, and the cycle breaks it. It has fewer lines where more points
+/// would be needed to make up the number.
+pub fn random_with_lines(random: &mut Random, n: usize, p: usize, k: usize, lines: usize) -> Draft {
     let mut draft = frame(random, n, p, k, 4);
     // Z would wait for the end of a link that starts there.
     for row in 0..k {
         draft.links[row].activation = draft.later_point(random, draft.links[row].end);
     }
-    let clock = add_clock(&mut draft);
+    let on_cycle = add_cycle(&mut draft);
     for point in (1..n).cycle().take(n - 1 + random.below(2 * n)) {
-        let earlier = if random.chance(50) { clock } else { random.between(1, n as i64 - 1) as usize };
+        let earlier = if random.chance(50) { on_cycle } else { random.between(1, n as i64 - 1) as usize };
         let label = draft.any_label(random, 30);
         draft.after(point, earlier, random.between(-1, 3), label);
     }
 
     let (rounds, missing) = rounds_within(&draft, lines);
-    add_followers(&mut draft, clock, 1, rounds, missing);
+    add_waiting(&mut draft, on_cycle, 1, rounds, missing);
     for _ in 0..random.between(1, 3) {
         let label = draft.any_label(random, 30);
-        draft.within(clock, 0, rounds as i64 - 2, label);
+        draft.within(on_cycle, 0, rounds as i64 - 2, label);
     }
     random.shuffle(&mut draft.edges);
     draft
 }
 
-/// Adds a clock: two points that wait for each other, so that each round raises
-/// both by a second, and one that is raised once and sets a far horizon. Returns
-/// the first of the three.
-fn add_clock(draft: &mut Draft) -> usize {
-    let [clock, other, far] = [(); 3].map(|()| draft.add_point());
-    draft.after(clock, other, 1, 0);
-    draft.after(other, clock, 1, 0);
+/// Adds a cycle: two points that wait for each other, so that each round raises
+/// both by a second; and a point that is raised once and sets a far horizon.
+/// Returns the first of the three.
+fn add_cycle(draft: &mut Draft) -> usize {
+    let [on_cycle, other, far] = [(); 3].map(|()| draft.add_point());
+    draft.after(on_cycle, other, 1, 0);
+    draft.after(other, on_cycle, 1, 0);
     draft.after(far, 0, MOST_SECONDS, 0);
-    clock
+    on_cycle
 }
 
-/// Adds points that follow a leader, which each round but the last raises by a
-/// second in so many cells. They start so late as to have so many lines
-/// together; returns how many are still missing.
-fn add_followers(draft: &mut Draft, leader: usize, cells: usize, rounds: usize, lines: usize) -> usize {
+/// Adds points that wait for a source, which each round but the last raises by a
+/// second in so many cells. Their waits begin so late that they have so many
+/// lines together; returns how many are still missing.
+fn add_waiting(draft: &mut Draft, source: usize, cells: usize, rounds: usize, lines: usize) -> usize {
     let mut missing = lines;
     while missing >= cells && draft.points < MOST_POINTS {
-        // The first round does not raise a follower yet.
+        // The first round raises none of them yet.
         let raises = (missing / cells).min(rounds - 2);
-        let follower = draft.add_point();
-        draft.within(leader, follower, (rounds - 2 - raises) as i64, 0);
+        let waiting = draft.add_point();
+        draft.within(source, waiting, (rounds - 2 - raises) as i64, 0);
         missing -= cells * raises;
     }
     missing

@@ -3,7 +3,7 @@
 
 use std::fmt::Display;
 use sulgrach_tests::compare::{self, Lengths, LONGEST_LISTING};
-use sulgrach_tests::generate::{driven, hex, in_step, long_cycles, raised, samples};
+use sulgrach_tests::generate::{hex, long_cycles, raised, random_with_lines, samples, with_rounds_and_lines};
 use sulgrach_tests::generate::{Class, Draft, Random, Sample};
 use sulgrach_tests::second::{self, listing_bytes, Edge, Verdict, EVERY_PLAN, MOST_LINES};
 use sulgrach_tests::times;
@@ -52,14 +52,14 @@ fn listings_about_as_long_as_allowed() {
         (4, (2, 2_047), 4_098),
     ];
     for (points, bound, lines) in bounded {
-        let draft = two_in_turns(points, 20_000, Some(bound));
-        assert_eq!(into_every_output(&draft, &"two in turns"), (lines, lines + 3 - points));
+        let draft = two_point_cycle(points, 20_000, Some(bound));
+        assert_eq!(into_every_output(&draft, &"two-point cycle"), (lines, lines + 3 - points));
     }
     // So many lines that 16 bits would take them for none, one or seven, and
     // more than 4,096 rounds.
     for (points, longest, lines) in [(3, 16_383, 65_536), (4, 10_922, 65_537), (8, 4_681, 65_543)] {
-        let draft = two_in_turns(points, longest, None);
-        assert_eq!(into_every_output(&draft, &"two in turns"), (lines, lines + 3 - points));
+        let draft = two_point_cycle(points, longest, None);
+        assert_eq!(into_every_output(&draft, &"two-point cycle"), (lines, lines + 3 - points));
     }
     compare::print_calls("listings_about_as_long_as_allowed");
 }
@@ -70,13 +70,13 @@ fn listings_about_as_long_with_many_lines_a_round() {
     for (propositions, rounds) in [(0, 1_300), (0, 170), (1, 70), (2, 24), (3, 12), (4, 9)] {
         // Of the bytes of the last two, 16 bits would leave 0 and 14.
         for lines in (4_090..=4_103).chain([4_681, 4_682]) {
-            list_in_step(propositions, rounds, lines);
+            list_made(propositions, rounds, lines);
         }
         // A round ends with the 4,096th line, and more rounds follow before Z's.
         for more in [1, 2, 9] {
-            let mut draft = in_step(propositions, rounds, 4_097);
-            draft.edges.last_mut().expect("the clock's bound").weight += more as i64;
-            assert_eq!(into_every_output(&draft, &"in step").1, rounds + more);
+            let mut draft = with_rounds_and_lines(propositions, rounds, 4_097);
+            draft.edges.last_mut().expect("the bound on the cycle").weight += more as i64;
+            assert_eq!(into_every_output(&draft, &"rounds and lines set").1, rounds + more);
         }
     }
     compare::print_calls("listings_about_as_long_with_many_lines_a_round");
@@ -100,11 +100,11 @@ fn more_lines_than_16_bits_count() {
     for (bits, propositions, rounds) in shapes {
         assert!(rounds <= MOST_LINES);
         for left in [4_097, 4_096, 4_095, 700, 2, 1, 0] {
-            list_in_step(propositions, rounds, (1 << bits) + left);
+            list_made(propositions, rounds, (1 << bits) + left);
         }
     }
     // Over a million.
-    list_in_step(3, 2_400, (1 << 20) + 4_096);
+    list_made(3, 2_400, (1 << 20) + 4_096);
     compare::print_calls("more_lines_than_16_bits_count");
 }
 
@@ -117,7 +117,7 @@ fn generated_listings_about_as_long_as_allowed() {
         let mut random = Random::new(seed);
         let points = random.between(8, 14) as usize;
         let lines = random.between(4_090, 4_103) as usize;
-        match drawn(&mut random, points, lines, seed).0 {
+        match list_random(&mut random, points, lines, seed).0 {
             4_090..=4_096 => allowed += 1,
             4_097..=4_103 => refused += 1,
             _ => (),
@@ -140,7 +140,7 @@ fn generated_listings_longer_than_16_bits_count() {
         let points = random.between(16, 22) as usize;
         let (least, most) = random.pick(&[(0, 3), (4, 4_089), (4_090, 4_103)]);
         let lines = 65_536 + random.between(least, most) as usize;
-        let (lines, rounds) = drawn(&mut random, points, lines, seed);
+        let (lines, rounds) = list_random(&mut random, points, lines, seed);
         few_rounds += u64::from((65_536..=69_639).contains(&lines) && rounds <= MOST_LINES);
     }
     println!("{few_rounds} listings of 65,536 to 69,639 lines, of 4,096 rounds or fewer");
@@ -156,7 +156,7 @@ fn generated_listings_with_the_most_lines_a_round() {
     println!("plans of {count} seeds from 0");
     let mut most = 0;
     for seed in 0..count {
-        let draft = driven(&mut Random::new(seed), 24, 3, 3, 8_191);
+        let draft = random_with_lines(&mut Random::new(seed), 24, 3, 3, 8_191);
         let (_, rounds) = into_every_output(&draft, &format!("seed {seed}"));
         let plan = second::read(&draft.bytes()).expect("an accepted plan");
         most = raised(&plan).take(rounds - 1).fold(most, usize::max);
@@ -188,7 +188,7 @@ fn more_rounds_than_16_bits_count() {
 /// Points 1 and 2 wait for each other, so that each round raises one cell; the
 /// points past them are raised once, in the first round. A bound on point 1 or
 /// 2, or else the horizon, breaks the plan.
-fn two_in_turns(points: usize, longest: i64, bound: Option<(usize, i64)>) -> Draft {
+fn two_point_cycle(points: usize, longest: i64, bound: Option<(usize, i64)>) -> Draft {
     let edge = |from, to, weight| Edge { from, to, weight, label: 0 };
     let mut edges = vec![edge(1, 2, -longest), edge(2, 1, longest - 1)];
     edges.extend((3..points).map(|point| edge(point, 0, -1)));
@@ -197,16 +197,16 @@ fn two_in_turns(points: usize, longest: i64, bound: Option<(usize, i64)>) -> Dra
 }
 
 /// Lists a plan that is made to have so many rounds and lines.
-fn list_in_step(propositions: usize, rounds: usize, lines: usize) {
-    let draft = in_step(propositions, rounds, lines);
-    assert_eq!(into_every_output(&draft, &"in step"), (lines, rounds));
+fn list_made(propositions: usize, rounds: usize, lines: usize) {
+    let draft = with_rounds_and_lines(propositions, rounds, lines);
+    assert_eq!(into_every_output(&draft, &"rounds and lines set"), (lines, rounds));
 }
 
 /// Lists a plan drawn at random, with so many points before more are added;
 /// returns its numbers of lines and of rounds.
-fn drawn(random: &mut Random, points: usize, lines: usize, seed: u64) -> (usize, usize) {
+fn list_random(random: &mut Random, points: usize, lines: usize, seed: u64) -> (usize, usize) {
     let (p, k) = random.pick(&[(0, 0), (1, 0), (0, 1), (1, 1), (2, 1), (1, 2), (2, 2), (1, 3), (3, 1)]);
-    into_every_output(&driven(random, points, p, k, lines), &format!("seed {seed}"))
+    into_every_output(&random_with_lines(random, points, p, k, lines), &format!("seed {seed}"))
 }
 
 /// Lists a broken plan into an output one byte too short, just long enough, and
