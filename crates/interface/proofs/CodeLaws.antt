@@ -1,4 +1,4 @@
--- The codes of the check fit into 32 bits: no refusal has a number above 6.
+-- The codes of the check fit into 32 bits: no refusal has a number above 6, and above 15 where the plan has classes.
 use mathlib.Core.Bool.{Bool, true, false, not}
 use mathlib.Core.List.{List}
 use mathlib.Core.Option.{Option, none, some}
@@ -11,6 +11,8 @@ use Rattle.plan.specs.Refusal.{refusal}
 use Rattle.rounds.specs.Rounds.{tableFrom, firstAlarmWaits, zeros, roundsTo}
 use Rattle.rounds.specs.Outcomes.{Outcome, kept, broken, refused, pick, ended, runOutcome, tooShort, checkOutcome}
 use Rattle.rounds.proofs.Checking.{refusal-few}
+use Rattle.classes.specs.Classes.{Devices, classRefusal, classCheckOutcome}
+use Rattle.classes.proofs.AnswerLaws.{class-refusal-few}
 use Rattle.interface.specs.Codes.{codeOf}
 
 pub pick-few : (most : ℕ) (b : Bool) (o p : Outcome) → codeOf o ≤ most → codeOf p ≤ most → codeOf (pick b o p) ≤ most
@@ -27,3 +29,8 @@ check-few bs F G limit =
     let P = planOf bs in
     pick-few 106 (not (eqb (refusal bs) 0)) (refused (refusal bs)) _ (omega (arith, refusal-few bs))
     (pick-few 106 (tooShort P F G) (refused 6) (runOutcome P (zeros P) limit) (omega arith) (ended-few P (zeros P) limit (roundsTo P (zeros P) limit)))
+
+pub check-classes-few : (D : Devices) (bs cs F G : List ℕ) (limit : ℕ) → codeOf (classCheckOutcome D bs cs F G limit) ≤ 115
+unfolding classCheckOutcome
+check-classes-few D bs cs F G limit =
+    pick-few 115 (not (eqb (classRefusal D bs cs) 0)) (refused (classRefusal D bs cs)) (checkOutcome bs F G limit) (omega (arith, class-refusal-few D bs cs)) (omega (arith, check-few bs F G limit))

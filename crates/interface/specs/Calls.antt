@@ -5,6 +5,8 @@ use Prim.Native.Nat.{ℕ}
 use Rattle.plan.specs.Moments.{Moments}
 use Rattle.rounds.specs.Outcomes.{Outcome}
 use Rattle.rounds.specs.AfterCheck.{AfterCheck}
+use Rattle.classes.specs.Classes.{Devices}
+use Rattle.classes.specs.AfterCheckClasses.{AfterCheckClasses}
 use Rattle.listing.specs.AfterList.{AfterList}
 use Rattle.page.specs.Page.{PageOutcome}
 use Rattle.page.specs.AfterPage.{AfterPage}
@@ -14,6 +16,13 @@ use Rattle.interface.specs.Codes.{codeOf, countInto, numbersInto, pageCo
 pub record AfterCheckCall (plan : List ℕ) (limit : ℕ) (first second rounds : Moments) (code : ℕ) : Type 0 where
   pub outcome : Outcome
   pub check : AfterCheck plan limit first second outcome
+  pub code-is : code ≡ codeOf outcome
+  pub rounds-are : rounds .exit ≡ countInto outcome (rounds .entry)
+
+-- sulgrach_check_classes answered with this code, by a table of classes
+pub record AfterCheckClassesCall (D : Devices) (plan classes : List ℕ) (limit : ℕ) (first second rounds : Moments) (code : ℕ) : Type 0 where
+  pub outcome : Outcome
+  pub check : AfterCheckClasses D plan classes limit first second outcome
   pub code-is : code ≡ codeOf outcome
   pub rounds-are : rounds .exit ≡ countInto outcome (rounds .entry)
 

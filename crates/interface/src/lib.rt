@@ -5,6 +5,7 @@ mod list;
 mod paging;
 
 pub use calls::sulgrach_check;
+pub use calls::sulgrach_check_classes;
 pub use calls::sulgrach_replay;
 pub use list::sulgrach_list;
 pub use paging::sulgrach_page;
