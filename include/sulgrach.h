@@ -11,7 +11,7 @@
  * Time. A check makes rounds until it can tell, and some plans need millions. A caller that cannot wait sets a smaller
  * limit and may then be told SULGRACH_SPENT.
  *
- * The codes of sulgrach_check and sulgrach_list:
+ * The codes of sulgrach_check, sulgrach_check_classes and sulgrach_list:
  *
  *     SULGRACH_KEPT              0   a panel can keep the plan
  *     SULGRACH_BROKEN            1   no panel can
@@ -23,8 +23,9 @@
  *     SULGRACH_DONE              0   the page is in the output
  *     SULGRACH_REFUSED + N   100+N   turned down for the reason N
  *
- * The reasons; 1 to 7 are judged in the order: under 4 bytes, 2, length, 3, 4, 5, 6, 7; those of sulgrach_page in the
- * order: under 4 bytes, 2, length, 3, 4, 5, 6, 12, 13.
+ * The reasons; 1 to 7 are judged in the order: under 4 bytes, 2, length, 3, 4, 5, 6, 7; those of sulgrach_check_classes
+ * in the order: under 4 bytes, 2, length, 3, 4, 5, 14, 15, 6; those of sulgrach_page in the order: under 4 bytes, 2,
+ * length, 3, 4, 5, 6, 12, 13.
  *
  *      1   the plan has under 4 bytes, or a length other than its sizes ask for
  *      2   a size, or the number of cells, is out of bounds
@@ -41,6 +42,8 @@
  *     11   the last line does not make the first alarm wait for itself        (sulgrach_replay)
  *     12   a cell of the table is above 999,999                               (sulgrach_page)
  *     13   the output is too short for all lines                              (sulgrach_page)
+ *     14   there are not as many classes as links, or a class is above 6      (sulgrach_check_classes)
+ *     15   a link is narrower than its class                                  (sulgrach_check_classes)
  */
 #ifndef SULGRACH_H
 #define SULGRACH_H
@@ -90,6 +93,28 @@ extern "C" {
  * Entries of the tables past the plan's cells are never written, nor are those of `rounds` past the first. */
 uint32_t sulgrach_check(
     const uint8_t *plan, size_t plan_length,
+    uint32_t *first, size_t first_length,
+    uint32_t *second, size_t second_length,
+    uint64_t limit,
+    uint64_t *rounds, size_t rounds_length);
+
+/* The check of a plan whose links have device classes. `classes` has one byte for each link, in the order of the links:
+ * 0 for a link without a class, else the number of its class in the house table:
+ *
+ *     class                least   most, in seconds
+ *     1   lift homing         10     90
+ *     2   smoke damper         5     60
+ *     3   door closer          2     25
+ *     4   shutter             15    120
+ *     5   staff search        60    300
+ *     6   extract fan          8     45
+ *
+ * A link with a class must have a least duration no larger than the class's least and a most duration no smaller than
+ * its most; else it is narrower than its class, and the plan is refused. A plan that passes is checked as by
+ * sulgrach_check, to the cell: the same code, and the same is written. Refused, nothing is written. */
+uint32_t sulgrach_check_classes(
+    const uint8_t *plan, size_t plan_length,
+    const uint8_t *classes, size_t classes_length,
     uint32_t *first, size_t first_length,
     uint32_t *second, size_t second_length,
     uint64_t limit,
