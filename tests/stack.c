@@ -1,6 +1,6 @@
 /* Prints how much stack a call of the library takes.
  *
- *     stack check|list|replay|page|page12|page13 LIMIT PLAN...
+ *     stack check|classes0|classes3|classes7|list|replay|page|page12|page13 LIMIT PLAN...
  *
  * The call runs on a stack of its own, filled with a pattern beforehand; afterwards the pattern is gone as far down as
  * the call went. For each plan a line: the call's code, bytes of stack. The caller's arguments and its way into the call
@@ -17,12 +17,18 @@
 static uint64_t numbers[2], limit;
 static uint32_t first[SULGRACH_CELLS], second[SULGRACH_CELLS], code;
 static uint16_t lines[SULGRACH_CELLS];
-static uint8_t plan[801], out[SULGRACH_LISTING], text[SULGRACH_PAGE], stack[STACK];
+static uint8_t plan[801], classes[255], out[SULGRACH_LISTING], text[SULGRACH_PAGE], stack[STACK];
 static size_t length, text_length;
 static ucontext_t outside, inside;
 
 static void check(void) {
     code = sulgrach_check(plan, length, first, SULGRACH_CELLS, second, SULGRACH_CELLS, limit, numbers, 2);
+}
+
+/* A class for each link. */
+static void check_classes(void) {
+    code = sulgrach_check_classes(plan, length, classes, plan[2], first, SULGRACH_CELLS, second, SULGRACH_CELLS, limit,
+        numbers, 2);
 }
 
 static void list(void) {
@@ -37,6 +43,13 @@ static void replay(void) {
 
 static void page(void) {
     code = sulgrach_page(plan, length, first, SULGRACH_CELLS, text, text_length, numbers, 2);
+}
+
+/* All links have the class that the word ends with. Not by memset, see paint. */
+static void classify(const char *word) {
+    volatile uint8_t *bytes = classes;
+    for (size_t i = 0; i < sizeof classes; i++)
+        bytes[i] = (uint8_t)(word[7] - '0');
 }
 
 /* A line for every cell; page12 and page13 are pages to be refused with 12 and 13. Not the table of a check, which would
@@ -90,6 +103,9 @@ int main(int count, char **words) {
         numbers[1] = 0;
         if (strcmp(words[1], "check") == 0) {
             used = measure(check);
+        } else if (strncmp(words[1], "classes", 7) == 0) {
+            classify(words[1]);
+            used = measure(check_classes);
         } else if (strcmp(words[1], "list") == 0) {
             used = measure(list);
         } else if (strcmp(words[1], "replay") == 0) {

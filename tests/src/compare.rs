@@ -31,6 +31,7 @@ impl Lengths {
 #[derive(Clone, Copy, Default)]
 struct Calls {
     checks: u64,
+    class_checks: u64,
     listings: u64,
     replays: u64,
     pages: u64,
@@ -38,7 +39,8 @@ struct Calls {
 
 thread_local! {
     /// Those of the test that runs on this thread.
-    static CALLS: Cell<Calls> = const { Cell::new(Calls { checks: 0, listings: 0, replays: 0, pages: 0 }) };
+    static CALLS: Cell<Calls> =
+        const { Cell::new(Calls { checks: 0, class_checks: 0, listings: 0, replays: 0, pages: 0 }) };
 }
 
 fn add(change: impl FnOnce(&mut Calls)) {
@@ -52,8 +54,11 @@ fn add(change: impl FnOnce(&mut Calls)) {
 /// Prints how many calls a test has compared; it ends with this. The count
 /// starts again from 0, since the next test may run on the same thread.
 pub fn print_calls(test: &str) {
-    let Calls { checks, listings, replays, pages } = CALLS.take();
-    println!("{test}: compared {checks} checks, {listings} listings, {replays} replays, {pages} pages");
+    let Calls { checks, class_checks, listings, replays, pages } = CALLS.take();
+    println!(
+        "{test}: compared {checks} checks, {class_checks} checks with classes, {listings} listings, \
+         {replays} replays, {pages} pages"
+    );
 }
 
 // ------------------------------------------------------------- comparing
@@ -107,28 +112,99 @@ fn same<T: PartialEq + Display>(of: &str, library: &[T], second: &[T], case: &dy
     }
 }
 
+/// The memory that a check may write to.
+#[derive(Clone)]
+struct Lent {
+    first: Vec<u32>,
+    second: Vec<u32>,
+    rounds: Vec<u64>,
+}
+
+impl Lent {
+    fn dirty(random: &mut Random, lengths: Lengths) -> Self {
+        let [first, second] = [lengths.first, lengths.second].map(|length| dirty_words(random, length));
+        let count = random.below(4);
+        Lent { first, second, rounds: dirty_numbers(random, count) }
+    }
+}
+
+/// The second checker's code, and what it leaves of the memory.
+fn by_second(
+    before: &Lent,
+    check: impl FnOnce(&mut [u32], &mut [u32]) -> Result<Answer, Refusal>,
+) -> (u32, Lent) {
+    let mut lent = before.clone();
+    let answer = check(&mut lent.first, &mut lent.second);
+    if let (Ok(answer), Some(count)) = (&answer, lent.rounds.first_mut()) {
+        *count = answer.rounds;
+    }
+    (check_code(&answer), lent)
+}
+
+/// The library's code, and what it leaves of the memory.
+fn by_library(before: &Lent, check: impl FnOnce(&mut [u32], &mut [u32], &mut [u64]) -> u32) -> (u32, Lent) {
+    let mut lent = before.clone();
+    let code = check(&mut lent.first, &mut lent.second, &mut lent.rounds);
+    (code, lent)
+}
+
+fn same_check(library: &(u32, Lent), second: &(u32, Lent), case: &dyn Display) {
+    let ((code, lent), (code_expected, expected)) = (library, second);
+    assert_eq!(code, code_expected, "code of the library and of the second checker; {case}");
+    same("count of rounds", &lent.rounds, &expected.rounds, case);
+    same("first table", &lent.first, &expected.first, case);
+    same("second table", &lent.second, &expected.second, case);
+}
+
 /// Checks a plan both ways and compares the answer and all lent memory.
 pub fn check(random: &mut Random, plan: &[u8], lengths: Lengths, limit: u64, sample: &dyn Display) {
     let case = format!("check, limit {limit}, {lengths:?}, {sample}");
-    let [first, second] = [lengths.first, lengths.second].map(|length| dirty_words(random, length));
-    let count = random.below(4);
-    let rounds = dirty_numbers(random, count);
-
-    let (mut first_expected, mut second_expected, mut rounds_expected) =
-        (first.clone(), second.clone(), rounds.clone());
-    let expected = second::check(plan, &mut first_expected, &mut second_expected, limit);
-    if let (Ok(answer), Some(count)) = (&expected, rounds_expected.first_mut()) {
-        *count = answer.rounds;
-    }
-
-    let (mut first, mut second, mut rounds) = (first, second, rounds);
-    let found = library::check(plan, &mut first, &mut second, limit, &mut rounds);
-
-    assert_eq!(found, check_code(&expected), "code of the library and of the second checker; {case}");
-    same("count of rounds", &rounds, &rounds_expected, &case);
-    same("first table", &first, &first_expected, &case);
-    same("second table", &second, &second_expected, &case);
+    let before = Lent::dirty(random, lengths);
+    let expected = by_second(&before, |first, second| second::check(plan, first, second, limit));
+    let found =
+        by_library(&before, |first, second, rounds| library::check(plan, first, second, limit, rounds));
+    same_check(&found, &expected, &case);
     add(|calls| calls.checks += 1);
+}
+
+/// Checks a plan with its classes both ways and compares the answer and all
+/// lent memory; returns the code of both. The library's plain check is to do
+/// the same on the same memory, unless the plan is refused for its classes,
+/// which a plain check does not have.
+pub fn check_classes(
+    random: &mut Random,
+    plan: &[u8],
+    classes: &[u8],
+    lengths: Lengths,
+    limit: u64,
+    sample: &dyn Display,
+) -> u32 {
+    let shown = hex(&classes[..classes.len().min(16)]);
+    let case = format!("check with {} classes, {shown}, limit {limit}, {lengths:?}, {sample}", classes.len());
+    let before = Lent::dirty(random, lengths);
+    let expected =
+        by_second(&before, |first, second| second::check_classes(plan, classes, first, second, limit));
+    let (plan_lent, classes_lent) = (plan.to_vec(), classes.to_vec());
+    let found = by_library(&before, |first, second, rounds| {
+        library::check_classes(&plan_lent, &classes_lent, first, second, limit, rounds)
+    });
+    same_check(&found, &expected, &case);
+    // A compiler may take it for granted that what is lent to be read stays.
+    same("plan", black_box(&plan_lent), plan, &case);
+    same("classes", black_box(&classes_lent), classes, &case);
+    add(|calls| calls.class_checks += 1);
+
+    let code = expected.0;
+    let for_its_classes = [14, 15].map(library::refused).contains(&code);
+    let expected = if for_its_classes {
+        by_second(&before, |first, second| second::check(plan, first, second, limit))
+    } else {
+        expected
+    };
+    let plain =
+        by_library(&before, |first, second, rounds| library::check(plan, first, second, limit, rounds));
+    same_check(&plain, &expected, &format!("plain check beside the {case}"));
+    code
 }
 
 fn check_code(expected: &Result<Answer, Refusal>) -> u32 {

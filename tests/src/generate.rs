@@ -1,5 +1,6 @@
 //! A seeded generator of plans. A class and a seed always make the same plan.
 
+pub mod devices;
 pub mod faults;
 pub mod listings;
 
@@ -152,6 +153,12 @@ const MOST_EDGES: usize = 128;
 const MOST_POINTS: usize = 32;
 
 impl Draft {
+    /// An accepted plan, to be changed.
+    fn of(plan: Plan) -> Self {
+        let Plan { points, observing, links, edges, .. } = plan;
+        Draft { points, observing, links, edges }
+    }
+
     /// The plan's file: sizes, observing points, then the two arrays.
     pub fn bytes(&self) -> Vec<u8> {
         let sizes = [self.points, self.observing.len(), self.links.len(), self.edges.len()];

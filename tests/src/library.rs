@@ -6,13 +6,26 @@ pub mod header {
     include!(concat!(env!("OUT_DIR"), "/header.rs"));
 }
 
-use header::{sulgrach_check, sulgrach_list, sulgrach_page, sulgrach_replay};
+use header::{sulgrach_check, sulgrach_check_classes, sulgrach_list, sulgrach_page, sulgrach_replay};
 
 // The types of the calls as they are relied on here. Types of functions must
 // agree exactly, so that a `const` too many or too few in the header does not
 // go unseen.
 type Check =
     unsafe extern "C" fn(*const u8, usize, *mut u32, usize, *mut u32, usize, u64, *mut u64, usize) -> u32;
+type CheckClasses = unsafe extern "C" fn(
+    *const u8,
+    usize,
+    *const u8,
+    usize,
+    *mut u32,
+    usize,
+    *mut u32,
+    usize,
+    u64,
+    *mut u64,
+    usize,
+) -> u32;
 type List = unsafe extern "C" fn(
     *const u8,
     usize,
@@ -30,7 +43,8 @@ type List = unsafe extern "C" fn(
 ) -> u32;
 type Replay = unsafe extern "C" fn(*const u8, usize, *const u8, usize) -> u32;
 type Page = unsafe extern "C" fn(*const u8, usize, *const u32, usize, *mut u8, usize, *mut u64, usize) -> u32;
-const _: (Check, List, Replay, Page) = (sulgrach_check, sulgrach_list, sulgrach_replay, sulgrach_page);
+const _: (Check, CheckClasses, List, Replay, Page) =
+    (sulgrach_check, sulgrach_check_classes, sulgrach_list, sulgrach_replay, sulgrach_page);
 
 pub const KEPT: u32 = header::SULGRACH_KEPT;
 pub const BROKEN: u32 = header::SULGRACH_BROKEN;
@@ -56,6 +70,33 @@ pub fn check(plan: &[u8], first: &mut [u32], second: &mut [u32], limit: u64, rou
         sulgrach_check(
             plan.as_ptr(),
             plan.len(),
+            first.as_mut_ptr(),
+            first.len(),
+            second.as_mut_ptr(),
+            second.len(),
+            limit,
+            rounds.as_mut_ptr(),
+            rounds.len(),
+        )
+    }
+}
+
+/// The code of the answer; the count of rounds goes into `rounds[0]`.
+pub fn check_classes(
+    plan: &[u8],
+    classes: &[u8],
+    first: &mut [u32],
+    second: &mut [u32],
+    limit: u64,
+    rounds: &mut [u64],
+) -> u32 {
+    // SAFETY: as for `check`; plan and classes are only read.
+    unsafe {
+        sulgrach_check_classes(
+            plan.as_ptr(),
+            plan.len(),
+            classes.as_ptr(),
+            classes.len(),
             first.as_mut_ptr(),
             first.len(),
             second.as_mut_ptr(),

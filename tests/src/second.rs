@@ -22,7 +22,7 @@ pub const MOST_LINES: usize = 4_096;
 /// The most bytes that the program reads as a plan.
 pub const MOST_BYTES: usize = 800;
 
-/// The number of a refusal, 1 to 13.
+/// The number of a refusal, 1 to 15.
 pub type Refusal = u32;
 
 // ---------------------------------------------------------------- labels
@@ -494,6 +494,66 @@ pub fn check(bytes: &[u8], first: &mut [u32], second: &mut [u32], limit: u64) ->
     first[..plan.cells()].copy_from_slice(&answer.table);
     second[..plan.cells()].copy_from_slice(&answer.table);
     Ok(answer)
+}
+
+// ------------------------------------------------------- device classes
+
+/// A device class, with its "least and most seconds". (4/13)
+#[derive(Clone, Copy, Debug, PartialEq, Eq)]
+pub struct DeviceClass {
+    pub least: i64,
+    pub most: i64,
+}
+
+/// "The house table of least and most seconds is: 1 lift homing 10 and 90, 2
+/// smoke damper 5 and 60, 3 door closer 2 and 25, 4 shutter 15 and 120, 5 staff
+/// search 60 and 300, 6 extract fan 8 and 45." (4/13) Class c is entry c − 1,
+/// since "class 0 means none".
+pub const HOUSE_TABLE: [DeviceClass; 6] = [
+    DeviceClass { least: 10, most: 90 },
+    DeviceClass { least: 5, most: 60 },
+    DeviceClass { least: 2, most: 25 },
+    DeviceClass { least: 15, most: 120 },
+    DeviceClass { least: 60, most: 300 },
+    DeviceClass { least: 8, most: 45 },
+];
+
+/// The check with "a list of k class bytes beside the plan". "A plan that passes
+/// is checked as before, to the cell. It refuses, after 1 to 5, with 14 a list
+/// whose length is not k or that has a class above 6, and then with 15 a link
+/// narrower than its class, both before 6 and with the tables untouched." (4/13)
+pub fn check_classes(
+    bytes: &[u8],
+    classes: &[u8],
+    first: &mut [u32],
+    second: &mut [u32],
+    limit: u64,
+) -> Result<Answer, Refusal> {
+    let plan = read(bytes)?;
+    if !classes_right(&plan, classes, &HOUSE_TABLE) {
+        return Err(14);
+    }
+    let mut links = plan.links.iter().zip(classes);
+    if links.any(|(link, &class)| narrower_than_class(link, class, &HOUSE_TABLE)) {
+        return Err(15);
+    }
+    check(bytes, first, second, limit)
+}
+
+/// Refusal 14: "a list whose length is not k or that has a class above 6", the
+/// last class of the house table.
+fn classes_right(plan: &Plan, classes: &[u8], table: &[DeviceClass]) -> bool {
+    classes.len() == plan.links.len() && classes.iter().all(|&class| usize::from(class) <= table.len())
+}
+
+/// Refusal 15. "A link with a class must have s no larger than the class's least
+/// and y no smaller than its most." (4/13)
+fn narrower_than_class(link: &Link, class: u8, table: &[DeviceClass]) -> bool {
+    if class == 0 {
+        return false;
+    }
+    let DeviceClass { least, most } = table[usize::from(class) - 1];
+    link.least > least || link.most < most
 }
 
 // ----------------------------------------------------------- the listing

@@ -28,5 +28,7 @@ fn every_constant() {
 
 #[test]
 fn every_call() {
-    assert_eq!(CALLS, ["sulgrach_check", "sulgrach_list", "sulgrach_replay", "sulgrach_page"]);
+    let expected =
+        ["sulgrach_check", "sulgrach_check_classes", "sulgrach_list", "sulgrach_replay", "sulgrach_page"];
+    assert_eq!(CALLS, expected);
 }

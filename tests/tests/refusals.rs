@@ -129,7 +129,7 @@ fn bounds_that_are_still_accepted() {
     compare::print_calls("bounds_that_are_still_accepted");
 }
 
-/// All four calls on a plan that may be refused. An accepted one is only run
+/// All five calls on a plan that may be refused. An accepted one is only run
 /// as far as it takes to see that both go on with it.
 fn every_call(random: &mut Random, plan: &[u8], case: &str) {
     let cells = random.pick(&[0, 20, MOST_CELLS, MOST_CELLS]);
@@ -145,4 +145,7 @@ fn every_call(random: &mut Random, plan: &[u8], case: &str) {
     compare::replay(plan, &[], &case);
     let table = vec![random.pick(&[0, 1, 999_999, 1_000_000]); cells];
     let _ = compare::page(random, plan, &table, lengths.output, &case);
+    let links = plan.get(2).map_or(0, |&size| usize::from(size));
+    let classes = vec![random.pick(&[0, 0, 5, 7]); links];
+    compare::check_classes(random, plan, &classes, lengths, limit, &case);
 }

@@ -35,11 +35,12 @@ fn compile(binding: &str) -> PathBuf {
     program
 }
 
-/// Files of plans: those of the repository, generated ones, wide ones with
-/// links and facts, and refused ones.
+/// Files of plans: those of the repository, a link as wide as class 3, generated
+/// ones, wide ones with links and facts, and refused ones.
 fn plans() -> Vec<PathBuf> {
     let mut files = plan_files();
-    let mut plans: Vec<Vec<u8>> = vec![slow_cycle(32, 16, 1_000_000, false)];
+    let door = vec![2, 0, 1, 0, 0, 1, 0, 2, 0, 25];
+    let mut plans: Vec<Vec<u8>> = vec![slow_cycle(32, 16, 1_000_000, false), door];
     for (class, count) in
         [(Class::Decisive, 20), (Class::Mixed, 20), (Class::Extreme, 10), (Class::Dense, 12)]
     {
@@ -76,7 +77,9 @@ fn each_call_takes_less_than_the_header_says() {
     let files = plans();
     for binding in ["now", "lazy"] {
         let program = compile(binding);
-        for call in ["check", "list", "replay", "page", "page12", "page13"] {
+        for call in
+            ["check", "classes0", "classes3", "classes7", "list", "replay", "page", "page12", "page13"]
+        {
             let measured = measure(&program, call, &files);
             let most = measured.iter().map(|&(_, used)| used).max().expect("some plans");
             println!("{call}, memset bound {binding}: at most {most} bytes of stack, {} plans", files.len());
@@ -87,6 +90,9 @@ fn each_call_takes_less_than_the_header_says() {
             }
             let expected = match call {
                 "check" => vec![KEPT, BROKEN, SPENT, refused(1), refused(5)],
+                "classes0" => vec![KEPT, BROKEN, SPENT, refused(1), refused(5)],
+                "classes3" => vec![KEPT, refused(5), refused(15)],
+                "classes7" => vec![refused(5), refused(14)],
                 "list" => vec![KEPT, BROKEN, SPENT, refused(1), refused(7)],
                 "replay" => vec![0, 1, 5, 8],
                 "page" => vec![DONE, refused(1), refused(5)],
