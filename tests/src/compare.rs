@@ -56,7 +56,7 @@ fn add(change: impl FnOnce(&mut Calls)) {
 pub fn print_calls(test: &str) {
     let Calls { checks, class_checks, listings, replays, pages } = CALLS.take();
     println!(
-        "{test}: compared {checks} checks, {class_checks} checks with classes, {listings} listings, \
+        "{test}: compared {checks} checks, {class_checks} checks by classes, {listings} listings, \
          {replays} replays, {pages} pages"
     );
 }
@@ -167,7 +167,7 @@ pub fn check(random: &mut Random, plan: &[u8], lengths: Lengths, limit: u64, sam
     add(|calls| calls.checks += 1);
 }
 
-/// Checks a plan with its classes both ways and compares the answer and all
+/// Checks a plan by its classes both ways and compares the answer and all
 /// lent memory; returns the code of both. The library's plain check is to do
 /// the same on the same memory, unless the plan is refused for its classes,
 /// which a plain check does not have.
@@ -180,7 +180,7 @@ pub fn check_classes(
     sample: &dyn Display,
 ) -> u32 {
     let shown = hex(&classes[..classes.len().min(16)]);
-    let case = format!("check with {} classes, {shown}, limit {limit}, {lengths:?}, {sample}", classes.len());
+    let case = format!("check by {} classes, {shown}, limit {limit}, {lengths:?}, {sample}", classes.len());
     let before = Lent::dirty(random, lengths);
     let expected =
         by_second(&before, |first, second| second::check_classes(plan, classes, first, second, limit));

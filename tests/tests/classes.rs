@@ -1,4 +1,4 @@
-//! The check with device classes: the house table to the second, every refusal
+//! The check by device classes: the house table to the second, every refusal
 //! in its place, and plans that pass, which are checked as before.
 
 use std::collections::BTreeMap;
@@ -60,7 +60,7 @@ fn answers_by_hand() {
             made += 1;
         }
     }
-    println!("answers_by_hand: {made} checks with classes");
+    println!("answers_by_hand: {made} checks by classes");
 }
 
 /// Plans of `plans` with the classes of their devices. Two classes the other way
