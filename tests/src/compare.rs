@@ -204,6 +204,7 @@ pub fn check_classes(
     let plain =
         by_library(&before, |first, second, rounds| library::check(plan, first, second, limit, rounds));
     same_check(&plain, &expected, &format!("plain check beside the {case}"));
+    add(|calls| calls.checks += 1);
     code
 }
 

@@ -314,8 +314,8 @@ fn faulty_plans() {
 fn with_other_faults(random: &mut Random, plan: &[u8], refusal: u32, case: &str) {
     for faults in 0..8 {
         let [wrong_list, narrower, short] = [1, 2, 4].map(|bit| faults & bit > 0);
-        // A class for each link that the sizes tell of. All links of these plans
-        // are narrower than class 5, whose least is 60 and whose most is 300.
+        // A class for each link that the sizes tell of. Class 5 takes 60 to 300 s,
+        // and most links of these plans are narrower.
         let links = plan.get(2).map_or(0, |&size| usize::from(size));
         let mut classes = vec![if narrower { 5 } else { 0 }; links];
         if wrong_list {

@@ -18,7 +18,7 @@ rampQuick = 4 ∷ 1 ∷ 1 ∷ 3 ∷ 2 ∷ 0 ∷ 1 ∷ 2 ∷ 1 ∷ 3 ∷ 0 ∷ 0 
 pub house-classes : house .least 1 ∷ house .most 1 ∷ house .least 2 ∷ house .most 2 ∷ house .least 3 ∷ house .most 3 ∷ house .least 4 ∷ house .most 4 ∷ house .least 5 ∷ house .most 5 ∷ house .least 6 ∷ house .most 6 ∷ [] ≡ houseSeconds
 house-classes = refl
 
--- with class 4, a shutter; without a class; with class 7, which no table of six has; with no list
+-- with class 4, a shutter; without a class; with class 7, which the house table does not have; with an empty list
 abbrev judged : List ℕ → List ℕ
 judged bs = classRefusal house bs (4 ∷ []) ∷ classRefusal house bs (0 ∷ []) ∷ classRefusal house bs (7 ∷ []) ∷ classRefusal house bs [] ∷ []
 

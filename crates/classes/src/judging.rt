@@ -17,12 +17,12 @@ const HOUSE: [u64; 12] = [10, 90, 5, 60, 2, 25, 15, 120, 60, 300, 8, 45];
 
 const LAST_CLASS: usize = 6;
 
-// The numbers of the refusals.
-const ACCEPTED: u32 = 0;
+// The numbers of the refusals, and 0 for none.
+const PASSED: u32 = 0;
 
-const CLASSES: u32 = 14;
+const WRONG_LIST: u32 = 14;
 
-const NARROW: u32 = 15;
+const NARROWER: u32 = 15;
 
 // A number of the house table, 0 past its end.
 fn house_seconds(at: usize) -> u64
@@ -91,10 +91,10 @@ pub fn class_refusal(plan: &[u8], classes: &[u8]) -> u32
         return number;
     }
     if !classes_fit(plan, classes) {
-        return CLASSES;
+        return WRONG_LIST;
     }
     if !links_wide_enough(plan, classes) {
-        return NARROW;
+        return NARROWER;
     }
-    ACCEPTED
+    PASSED
 }

@@ -1,4 +1,4 @@
--- The codes of the check fit into 32 bits: no refusal has a number above 6, and above 15 where the plan has classes.
+-- The codes of the check fit into 32 bits: no refusal has a number above 6, or above 15 in the check by classes.
 use mathlib.Core.Bool.{Bool, true, false, not}
 use mathlib.Core.List.{List}
 use mathlib.Core.Option.{Option, none, some}

@@ -3,7 +3,6 @@ use mathlib.Core.Path.{refl}
 use Prim.Native.Nat.{_-_}
 use native.Mathlib.Omega.{arith}
 use lib.ListN.{length}
-use borrow.Author.Needs.{needs}
 use borrow.Author.Tests.{le-leb, lt-leb}
 use Rattle.plan_refusal.proofs.Tests.{Passed, passed-none, passed-more, passed-all, passed-not}
 use Rattle.classes.specs.Classes.{house, classKnown}
