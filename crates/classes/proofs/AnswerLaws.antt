@@ -1,6 +1,6 @@
 -- What the check by classes answers: a refusal leaves the tables as they were, and a plan that passes has the check's answer.
 use mathlib.Core.Path.{_≡_, refl, _∙_}
-use mathlib.Core.Bool.{Bool, true, false, cond, not}
+use mathlib.Core.Bool.{true, false, not}
 use mathlib.Core.List.{List}
 use Prim.Native.Nat.{ℕ, _≤_}
 use native.Mathlib.Omega.{arith}
@@ -12,7 +12,7 @@ use Rattle.plan.specs.Refusal.{every, refusal}
 use Rattle.rounds.specs.Outcomes.{Outcome, refused}
 use Rattle.rounds.specs.AfterCheck.{AfterCheck}
 use Rattle.rounds.proofs.Meanings.{refused-means}
-use Rattle.rounds.proofs.Checking.{refusal-few}
+use Rattle.rounds.proofs.Checking.{at-most, refusal-few}
 use Rattle.classes.specs.Classes.{Devices, classesFit, wideEnough, classRefusal, classCheckOutcome, classCheckTable}
 use Rattle.classes.specs.AfterCheckClasses.{AfterCheckClasses}
 
@@ -44,13 +44,9 @@ module _ (D : Devices) (bs cs : List ℕ) where
       }
 
   -- ---- the number of a refusal
-  at-most : (b : Bool) (k n : ℕ) → k ≤ 15 → n ≤ 15 → cond b k n ≤ 15
-  at-most true k n h i = h
-  at-most false k n h i = i
-
   pub class-refusal-few : classRefusal D bs cs ≤ 15
   unfolding classRefusal
   class-refusal-few =
-      at-most (not (eqb (refusal bs) 0)) (refusal bs) _ (omega (arith, refusal-few bs))
-      (at-most (not (classesFit D (planOf bs) cs)) 14 _ (omega arith)
-      (at-most (not (every (wideEnough D (planOf bs) cs) (planOf bs .links))) 15 0 (omega arith) (omega arith)))
+      at-most 15 (not (eqb (refusal bs) 0)) (refusal bs) _ (omega (arith, refusal-few bs))
+      (at-most 15 (not (classesFit D (planOf bs) cs)) 14 _ (omega arith)
+      (at-most 15 (not (every (wideEnough D (planOf bs) cs) (planOf bs .links))) 15 0 (omega arith) (omega arith)))

@@ -70,20 +70,20 @@ pub short-second : (P : Plan) (F G : List ℕ) → cells P ≤ length F → leng
 short-second P F G f h = rw (le-ltb (length F) (cells P) f, lt-ltb (length G) (cells P) h) refl
 
 -- ---- the number of a refusal from 1 to 5
-at-most : (b : Bool) (k n : ℕ) → k ≤ 5 → n ≤ 5 → cond b k n ≤ 5
-at-most true k n h i = h
-at-most false k n h i = i
+pub at-most : (most : ℕ) (b : Bool) (k n : ℕ) → k ≤ most → n ≤ most → cond b k n ≤ most
+at-most most true k n h i = h
+at-most most false k n h i = i
 
 pub refusal-few : (bs : List ℕ) → refusal bs ≤ 5
 unfolding refusal refusalOf
 refusal-few bs =
     let P = planOf bs in
-    at-most (ltb (length bs) 4) 1 _ (omega arith)
-    (at-most (not (sizesFit P)) 2 _ (omega arith)
-    (at-most (not (eqb (length bs) (lengthFor P))) 1 _ (omega arith)
-    (at-most (not (every (observerFits P) (P .propositions))) 3 _ (omega arith)
-    (at-most (not (every (linkFits P) (P .links))) 4 _ (omega arith)
-    (at-most (not (every (edgeFits bs P) (P .edges))) 5 0 (omega arith) (omega arith))))))
+    at-most 5 (ltb (length bs) 4) 1 _ (omega arith)
+    (at-most 5 (not (sizesFit P)) 2 _ (omega arith)
+    (at-most 5 (not (eqb (length bs) (lengthFor P))) 1 _ (omega arith)
+    (at-most 5 (not (every (observerFits P) (P .propositions))) 3 _ (omega arith)
+    (at-most 5 (not (every (linkFits P) (P .links))) 4 _ (omega arith)
+    (at-most 5 (not (every (edgeFits bs P) (P .edges))) 5 0 (omega arith) (omega arith))))))
 
 -- ---- the check refuses, or its rounds run
 module _ (bs F G : List ℕ) (limit : ℕ) where
