@@ -11,7 +11,7 @@ use Rattle.plan.specs.Plan.{Plan, width, cells}
 use Rattle.plan.specs.Layout.{planOf}
 use Rattle.plan.specs.Refusal.{Accepted}
 use Rattle.rules.specs.declared.Line.{Line}
-use Rattle.rules.specs.declared.Edge.the-variants.{PlanEdge, HorizonEdge}
+use Rattle.rules.specs.declared.Edge.the-variants.{PlanEdge, HorizonEdge, UpperBound, LowerBound}
 use Rattle.rules.specs.declared.Rule.{Rule}
 use Rattle.rules.specs.declared.Rule.the-variants.{Propagation, LowerCase, UpperCase, LetterRemoval, OwnLiteral, LiteralRemoval}
 use Rattle.rules.specs.Lines.{lineAt}
@@ -113,9 +113,12 @@ pub record ByRule (r : Rule) (P : Plan) (T : List ℕ) (k : Line) : Type 0 where
   pub first : ℕ
   pub at-first : FirstAt P T k r first
 
--- by one of the rules of link i, or of proposition j
+-- by one of the edges of link i, by one of its rules, or by one of those of proposition j
+abbrev pub ByBound : ℕ → Sought
+ByBound i P T k = ByRule (Propagation (UpperBound i)) P T k ⊎ ByRule (Propagation (LowerBound i)) P T k
+
 abbrev pub ByLink : ℕ → Sought
-ByLink i P T k = ByRule (LowerCase i) P T k ⊎ (ByRule (UpperCase i) P T k ⊎ ByRule (LetterRemoval i) P T k)
+ByLink i P T k = ByBound i P T k ⊎ (ByRule (LowerCase i) P T k ⊎ (ByRule (UpperCase i) P T k ⊎ ByRule (LetterRemoval i) P T k))
 
 abbrev pub ByProposition : ℕ → Sought
 ByProposition j P T k = ByRule (OwnLiteral j) P T k ⊎ ByRule (LiteralRemoval j) P T k

@@ -19,7 +19,7 @@ ghost use Rattle.plan.specs.Layout.{planOf};
 ghost use Rattle.plan.specs.Refusal.{Accepted};
 ghost use Rattle.rules.specs.Derivations.{InPlan};
 ghost use Rattle.rules_ground.specs.Grounds.{Searchable, Tells};
-ghost use Rattle.rules_ground.specs.Searching.{Searched, SearchFor, isFound, Finds, ByRule, ByLink, ByProposition, ByEdges, ByHorizonEdges, ByLinks, ByPropositions};
+ghost use Rattle.rules_ground.specs.Searching.{Searched, SearchFor, isFound, Finds, ByRule, ByBound, ByLink, ByProposition, ByEdges, ByHorizonEdges, ByLinks, ByPropositions};
 
 fn is_found(f: Found) -> bool
     ensures { λ r. ⌜ r ≡ isFound f ⌝ }
@@ -36,7 +36,7 @@ fn find_by(plan: &[u8], marks: &[u8; 256], table: &[u32], s: Search, by: Rule) -
     ensures { λ r. ⌜ Finds (before plan) (before table) s (ByRule by) r ⌝ }
 {
     let x = s.line.point;
-    let at = points_of(plan, by, x);
+    let at = points_of(plan, s.horizon, by, x);
     if at.given != x {
         return Found::Nothing;
     }
@@ -85,11 +85,39 @@ fn find_in_horizon_edges(plan: &[u8], marks: &[u8; 256], table: &[u32], s: Searc
     Found::Nothing
 }
 
+// A ground by an edge of one link.
+fn find_by_bound(plan: &[u8], marks: &[u8; 256], table: &[u32], s: Search, i: usize) -> Found
+    requires { ⌜ Searched (now plan) (now marks) (now table) s × (i < planOf (now plan) .links) ⌝ }
+    ensures { λ r. ⌜ Finds (before plan) (before table) s (ByBound i) r ⌝ }
+{
+    let upper = find_by(
+        plan,
+        marks,
+        table,
+        s,
+        Rule::Propagation(Edge::UpperBound(i)),
+    );
+    if is_found(upper) {
+        return upper;
+    }
+    find_by(
+        plan,
+        marks,
+        table,
+        s,
+        Rule::Propagation(Edge::LowerBound(i)),
+    )
+}
+
 // A ground by a rule of one link.
 fn find_by_link(plan: &[u8], marks: &[u8; 256], table: &[u32], s: Search, i: usize) -> Found
     requires { ⌜ Searched (now plan) (now marks) (now table) s × (i < planOf (now plan) .links) ⌝ }
     ensures { λ r. ⌜ Finds (before plan) (before table) s (ByLink i) r ⌝ }
 {
+    let bound = find_by_bound(plan, marks, table, s, i);
+    if is_found(bound) {
+        return bound;
+    }
     let lower = find_by(plan, marks, table, s, Rule::LowerCase(i));
     if is_found(lower) {
         return lower;
