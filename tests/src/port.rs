@@ -537,7 +537,7 @@ mod rules {
         pub down: u64,
     }
 
-    // The horizon is lent, since M is read from all rows.
+    // The horizon is handed in: to find it anew would read every row.
     pub fn constraint_of(plan: &[u8], horizon: u64, e: Edge) -> Constraint {
         match e {
             Edge::PlanEdge(i) => Constraint {
@@ -841,8 +841,8 @@ mod rules_fill {
                 return;
             }
             lower_in(plan, marks, first, part, width, mask, i);
-            let upper = Edge::UpperBound(i);
-            edge_in(plan, marks, horizon, first, part, width, mask, upper);
+            let upper_bound = Edge::UpperBound(i);
+            edge_in(plan, marks, horizon, first, part, width, mask, upper_bound);
         }
 
         // Rule 3 of link i and rule 1 of its lower bound, if its end is x.
@@ -861,8 +861,8 @@ mod rules_fill {
                 return;
             }
             upper_in(plan, marks, first, part, width, mask, i);
-            let lower = Edge::LowerBound(i);
-            edge_in(plan, marks, horizon, first, part, width, mask, lower);
+            let lower_bound = Edge::LowerBound(i);
+            edge_in(plan, marks, horizon, first, part, width, mask, lower_bound);
         }
 
         // Rule 4 of link i.

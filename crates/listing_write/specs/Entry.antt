@@ -39,7 +39,7 @@ ruleNumber (LetterRemoval i) = 4
 ruleNumber (OwnLiteral j) = 5
 ruleNumber (LiteralRemoval j) = 6
 
--- for rule 1 an edge number, e + X for the horizon edge to X, or e + n + 2i and e + n + 2i + 1 for the edges of link i
+-- for rule 1 an edge number, e + Y for the horizon edge to Y, or e + n + 2i and e + n + 2i + 1 for the edges of link i
 abbrev pub edgeNumber : Plan → Edge → ℕ
 edgeNumber P (PlanEdge i) = i
 edgeNumber P (HorizonEdge x) = P .edges + x

@@ -60,7 +60,7 @@ boundOf b = cond (eqb (b % 2) 0) (UpperBound (b / 2)) (LowerBound (b / 2))
 abbrev pub boundRule : Plan → ℕ → Option Rule
 boundRule P b = just (ltb (b / 2) (P .links)) (Propagation (boundOf b))
 
--- 10.3: the row of rule 1: a plan edge below e, none at e, the horizon edge to X at e + X, and from e + n on the edges of links
+-- 10.3: the row of rule 1: a plan edge below e, none at e, the horizon edge to Y at e + Y, and from e + n on the edges of links
 abbrev pub edgeRule : Plan → ℕ → Option Rule
 edgeRule P row =
     cond (ltb row (P .edges)) (some (Propagation (PlanEdge row)))

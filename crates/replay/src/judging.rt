@@ -74,11 +74,11 @@ fn edge_rule(plan: &[u8], row: usize) -> Ruled
     if row == e {
         return Ruled::Nothing;
     }
-    let bounds = e + points(plan);
-    if row < bounds {
+    let first_bound = e + points(plan);
+    if row < first_bound {
         return Ruled::By(Rule::Propagation(Edge::HorizonEdge(row - e)));
     }
-    bound_rule(plan, row - bounds)
+    bound_rule(plan, row - first_bound)
 }
 
 // Rules 2 to 4 of a link.

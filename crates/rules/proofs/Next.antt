@@ -100,6 +100,12 @@ in-cond true x k t e = List·Memᴰ·head (sym e)
 in-cond false x k t e = absurd t
 
 -- ---- the edges and the rules of a plan
+in-edges : (P : Plan) (e : Edge) → InPlan P (Propagation e) → List·Memᴰ e (edgesOf P)
+in-edges P (PlanEdge i) h = let m = in-map PlanEdge 0 (P .edges) i (omega arith) (omega arith) in search Memᴰ·append-left
+in-edges P (HorizonEdge x) h = let m = in-map HorizonEdge 1 (P .points - 1) x (omega arith) (omega arith) in search (Memᴰ·append-left, Memᴰ·append-right)
+in-edges P (UpperBound i) h = let m = in-map UpperBound 0 (P .links) i (omega arith) (omega arith) in search (Memᴰ·append-left, Memᴰ·append-right)
+in-edges P (LowerBound i) h = let m = in-map LowerBound 0 (P .links) i (omega arith) (omega arith) in search Memᴰ·append-right
+
 of-edges : (P : Plan) (e : Edge) → List·Memᴰ e (edgesOf P) → InPlan P (Propagation e)
 of-edges P =
     of-append Q _ _ (of-map Q PlanEdge 0 (P .edges) (λ x a b. omega arith))
@@ -108,12 +114,6 @@ of-edges P =
   where
     Q : Edge → Type 0
     Q e = InPlan P (Propagation e)
-
-in-edges : (P : Plan) (e : Edge) → InPlan P (Propagation e) → List·Memᴰ e (edgesOf P)
-in-edges P (PlanEdge i) h = let m = in-map PlanEdge 0 (P .edges) i (omega arith) (omega arith) in search Memᴰ·append-left
-in-edges P (HorizonEdge x) h = let m = in-map HorizonEdge 1 (P .points - 1) x (omega arith) (omega arith) in search (Memᴰ·append-left, Memᴰ·append-right)
-in-edges P (UpperBound i) h = let m = in-map UpperBound 0 (P .links) i (omega arith) (omega arith) in search (Memᴰ·append-left, Memᴰ·append-right)
-in-edges P (LowerBound i) h = let m = in-map LowerBound 0 (P .links) i (omega arith) (omega arith) in search Memᴰ·append-right
 
 of-rules : (P : Plan) (r : Rule) → List·Memᴰ r (rulesOf P) → InPlan P r
 of-rules P =

@@ -13,7 +13,7 @@ use Rattle.rules.specs.declared.Rule.the-variants.{Propagation, LowerCas
 use Rattle.rules.specs.Lines.{cellOf, startingLine}
 use Rattle.rules.specs.Rules.{fires, result}
 
--- 7.1: the rule's row is one of the plan's links, edges, horizon edges or observing points
+-- 7.1: the rule's row is one of the plan's: an edge of 6.7, a link, or a proposition
 abbrev pub InPlan : Plan → Rule → Type 0
 InPlan P (Propagation (PlanEdge i)) = i < P .edges
 InPlan P (Propagation (HorizonEdge x)) = (0 < x) × (x < P .points)

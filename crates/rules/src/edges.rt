@@ -19,7 +19,7 @@ ghost use Rattle.rules.specs.Rules.{constraintOf};
 ghost use Rattle.rules.specs.Derivations.{InPlan};
 ghost use Rattle.rules.specs.declared.Rule.the-variants as rule;
 
-// The horizon is lent, since M is read from all rows.
+// The horizon is handed in: to find it anew would read every row.
 pub fn constraint_of(plan: &[u8], horizon: u64, e: Edge) -> Constraint
     requires { ⌜ Accepted (now plan) × InPlan (planOf (now plan)) (rule.Propagation e) × (horizon ≡ planOf (now plan) .horizon) ⌝ }
     ensures { λ r. ⌜ r ≡ constraintOf (planOf (before plan)) e ⌝ }

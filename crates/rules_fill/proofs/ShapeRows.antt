@@ -21,7 +21,7 @@ use Rattle.rules.specs.Rules.{constraintOf, result}
 use Rattle.rules.specs.Tables.{raiseCell, next}
 use Rattle.rules_fill.specs.Parts.{part}
 use Rattle.rules_fill.specs.Steps.{when, steps}
-use Rattle.rules_fill.specs.Shapes.{linkBit, digitMask, labelMask, touches, cleared, removes, propagateStep, propagateIn, removeStep, removeOne, removeCell, removeFrom, removeIn, clearCell, clearFrom, clearIn, edgeIn, lowerIn, upperIn, letterIn, ownLiteralIn, literalIn, fillEdge, fillEdges, fillHorizon, fillActivation, fillFinish, fillOwnLiteral, fillLink, fillLinks, fillProposition, fillPropositions, filled}
+use Rattle.rules_fill.specs.Shapes.{linkBit, digitMask, touches, cleared, removes, propagateStep, propagateIn, removeStep, removeOne, removeCell, removeFrom, removeIn, clearCell, clearFrom, clearIn, edgeIn, lowerIn, upperIn, letterIn, ownLiteralIn, literalIn, fillEdge, fillEdges, fillHorizon, fillActivation, fillFinish, fillOwnLiteral, fillLink, fillLinks, fillProposition, fillPropositions, filled}
 use Rattle.rules.specs.Derivations.{InPlan}
 use Rattle.rules.proofs.InRange.{edge-range}
 use Rattle.rules.proofs.Raising.{raise-none}

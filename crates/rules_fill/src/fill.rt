@@ -195,8 +195,8 @@ fn activation_in(
         return;
     }
     lower_in(plan, marks, first, part, width, mask, i);
-    let upper = Edge::UpperBound(i);
-    edge_in(plan, marks, horizon, first, part, width, mask, upper);
+    let upper_bound = Edge::UpperBound(i);
+    edge_in(plan, marks, horizon, first, part, width, mask, upper_bound);
 }
 
 // Rule 3 of link i and rule 1 of its lower bound, if its end is x.
@@ -220,8 +220,8 @@ fn finish_in(
         return;
     }
     upper_in(plan, marks, first, part, width, mask, i);
-    let lower = Edge::LowerBound(i);
-    edge_in(plan, marks, horizon, first, part, width, mask, lower);
+    let lower_bound = Edge::LowerBound(i);
+    edge_in(plan, marks, horizon, first, part, width, mask, lower_bound);
 }
 
 // Rule 4 of link i.

@@ -113,13 +113,15 @@ pub record ByRule (r : Rule) (P : Plan) (T : List ℕ) (k : Line) : Type 0 where
   pub first : ℕ
   pub at-first : FirstAt P T k r first
 
--- by one of the edges of link i, by one of its rules, or by one of those of proposition j
+-- by one of the two edges of link i
 abbrev pub ByBound : ℕ → Sought
 ByBound i P T k = ByRule (Propagation (UpperBound i)) P T k ⊎ ByRule (Propagation (LowerBound i)) P T k
 
+-- by one of these, or by one of the link's rules
 abbrev pub ByLink : ℕ → Sought
 ByLink i P T k = ByBound i P T k ⊎ (ByRule (LowerCase i) P T k ⊎ (ByRule (UpperCase i) P T k ⊎ ByRule (LetterRemoval i) P T k))
 
+-- by one of the rules of proposition j
 abbrev pub ByProposition : ℕ → Sought
 ByProposition j P T k = ByRule (OwnLiteral j) P T k ⊎ ByRule (LiteralRemoval j) P T k
 

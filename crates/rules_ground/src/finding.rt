@@ -90,15 +90,15 @@ fn find_by_bound(plan: &[u8], marks: &[u8; 256], table: &[u32], s: Search, i: us
     requires { ⌜ Searched (now plan) (now marks) (now table) s × (i < planOf (now plan) .links) ⌝ }
     ensures { λ r. ⌜ Finds (before plan) (before table) s (ByBound i) r ⌝ }
 {
-    let upper = find_by(
+    let upper_bound = find_by(
         plan,
         marks,
         table,
         s,
         Rule::Propagation(Edge::UpperBound(i)),
     );
-    if is_found(upper) {
-        return upper;
+    if is_found(upper_bound) {
+        return upper_bound;
     }
     find_by(
         plan,
@@ -109,7 +109,7 @@ fn find_by_bound(plan: &[u8], marks: &[u8; 256], table: &[u32], s: Search, i: us
     )
 }
 
-// A ground by a rule of one link.
+// A ground by one link: by one of its two edges, or by rule 2, 3 or 4.
 fn find_by_link(plan: &[u8], marks: &[u8; 256], table: &[u32], s: Search, i: usize) -> Found
     requires { ⌜ Searched (now plan) (now marks) (now table) s × (i < planOf (now plan) .links) ⌝ }
     ensures { λ r. ⌜ Finds (before plan) (before table) s (ByLink i) r ⌝ }

@@ -16,8 +16,8 @@ returns-2 c = search rules-named
 points-requires : tie.Need-points-requires
 points-requires c κs = search needs
 
-add-bounds : tie.Need-add-bounds
-add-bounds c = search needs
+add-first-bound : tie.Need-add-first-bound
+add-first-bound c = search needs
 
 returns-3 : tie.Need-returns-3
 returns-3 c = search rules-named
@@ -36,7 +36,7 @@ edge-rule-spec =
     returns
     returns-2
     points-requires
-    add-bounds
+    add-first-bound
     returns-3
     bound-rule-requires
     returns-4)
