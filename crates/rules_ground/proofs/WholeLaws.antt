@@ -25,9 +25,9 @@ module _ (P : Plan) (T : List ℕ) (k : Line) where
   none-at-all e h l p (Propagation (HorizonEdge x)) c d g = h (record { index = x; from = g .row .0; below = g .row .1; holds = by-rule (Propagation (HorizonEdge x)) c d g })
   none-at-all e h l p (Propagation (UpperBound i)) c d g = l (record { index = i; from = omega arith; below = g .row; holds = inl (inl (by-rule (Propagation (UpperBound i)) c d g)) })
   none-at-all e h l p (Propagation (LowerBound i)) c d g = l (record { index = i; from = omega arith; below = g .row; holds = inl (inr (by-rule (Propagation (LowerBound i)) c d g)) })
-  none-at-all e h l p (LowerCase i) c d g = l (record { index = i; from = omega arith; below = g .row; holds = inr (inl (by-rule (LowerCase i) c d g)) })
-  none-at-all e h l p (UpperCase i) c d g = l (record { index = i; from = omega arith; below = g .row; holds = inr (inr (inl (by-rule (UpperCase i) c d g))) })
-  none-at-all e h l p (LetterRemoval i) c d g = l (record { index = i; from = omega arith; below = g .row; holds = inr (inr (inr (by-rule (LetterRemoval i) c d g))) })
+  none-at-all e h l p (LowerCase i) c d g = l (record { index = i; from = omega arith; below = g .row; holds = inr (inl (inl (by-rule (LowerCase i) c d g))) })
+  none-at-all e h l p (UpperCase i) c d g = l (record { index = i; from = omega arith; below = g .row; holds = inr (inl (inr (by-rule (UpperCase i) c d g))) })
+  none-at-all e h l p (LetterRemoval i) c d g = l (record { index = i; from = omega arith; below = g .row; holds = inr (inr (by-rule (LetterRemoval i) c d g)) })
   none-at-all e h l p (OwnLiteral j) c d g = p (record { index = j; from = omega arith; below = g .row; holds = inl (by-rule (OwnLiteral j) c d g) })
   none-at-all e h l p (LiteralRemoval j) c d g = p (record { index = j; from = omega arith; below = g .row; holds = inr (by-rule (LiteralRemoval j) c d g) })
 

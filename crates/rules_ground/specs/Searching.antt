@@ -113,17 +113,19 @@ pub record ByRule (r : Rule) (P : Plan) (T : List ℕ) (k : Line) : Type 0 where
   pub first : ℕ
   pub at-first : FirstAt P T k r first
 
--- by one of the two edges of link i
-abbrev pub ByBound : ℕ → Sought
-ByBound i P T k = ByRule (Propagation (UpperBound i)) P T k ⊎ ByRule (Propagation (LowerBound i)) P T k
+-- by one of two rules
+abbrev pub ByEither : Rule → Rule → Sought
+ByEither r q P T k = ByRule r P T k ⊎ ByRule q P T k
 
--- by one of these, or by one of the link's rules
+-- by one of the two edges of link i, or by one of its rules
 abbrev pub ByLink : ℕ → Sought
-ByLink i P T k = ByBound i P T k ⊎ (ByRule (LowerCase i) P T k ⊎ (ByRule (UpperCase i) P T k ⊎ ByRule (LetterRemoval i) P T k))
+ByLink i P T k =
+    ByEither (Propagation (UpperBound i)) (Propagation (LowerBound i)) P T k
+    ⊎ (ByEither (LowerCase i) (UpperCase i) P T k ⊎ ByRule (LetterRemoval i) P T k)
 
 -- by one of the rules of proposition j
 abbrev pub ByProposition : ℕ → Sought
-ByProposition j P T k = ByRule (OwnLiteral j) P T k ⊎ ByRule (LiteralRemoval j) P T k
+ByProposition j = ByEither (OwnLiteral j) (LiteralRemoval j)
 
 -- by a row of each kind
 abbrev pub ByEdges : Sought

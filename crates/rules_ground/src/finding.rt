@@ -19,7 +19,7 @@ ghost use Rattle.plan.specs.Layout.{planOf};
 ghost use Rattle.plan.specs.Refusal.{Accepted};
 ghost use Rattle.rules.specs.Derivations.{InPlan};
 ghost use Rattle.rules_ground.specs.Grounds.{Searchable, Tells};
-ghost use Rattle.rules_ground.specs.Searching.{Searched, SearchFor, isFound, Finds, ByRule, ByBound, ByLink, ByProposition, ByEdges, ByHorizonEdges, ByLinks, ByPropositions};
+ghost use Rattle.rules_ground.specs.Searching.{Searched, SearchFor, isFound, Finds, ByRule, ByEither, ByLink, ByEdges, ByHorizonEdges, ByLinks, ByPropositions};
 
 fn is_found(f: Found) -> bool
     ensures { λ r. ⌜ r ≡ isFound f ⌝ }
@@ -49,6 +49,25 @@ fn find_by(plan: &[u8], marks: &[u8; 256], table: &[u32], s: Search, by: Rule) -
         }
     }
     Found::Nothing
+}
+
+// A ground by one of two rules with their rows.
+fn find_by_either(
+    plan: &[u8],
+    marks: &[u8; 256],
+    table: &[u32],
+    s: Search,
+    by: Rule,
+    other: Rule,
+) -> Found
+    requires { ⌜ Searched (now plan) (now marks) (now table) s × InPlan (planOf (now plan)) by × InPlan (planOf (now plan)) other ⌝ }
+    ensures { λ r. ⌜ Finds (before plan) (before table) s (ByEither by other) r ⌝ }
+{
+    let found = find_by(plan, marks, table, s, by);
+    if is_found(found) {
+        return found;
+    }
+    find_by(plan, marks, table, s, other)
 }
 
 fn find_in_edges(plan: &[u8], marks: &[u8; 256], table: &[u32], s: Search) -> Found
@@ -85,46 +104,27 @@ fn find_in_horizon_edges(plan: &[u8], marks: &[u8; 256], table: &[u32], s: Searc
     Found::Nothing
 }
 
-// A ground by an edge of one link.
-fn find_by_bound(plan: &[u8], marks: &[u8; 256], table: &[u32], s: Search, i: usize) -> Found
-    requires { ⌜ Searched (now plan) (now marks) (now table) s × (i < planOf (now plan) .links) ⌝ }
-    ensures { λ r. ⌜ Finds (before plan) (before table) s (ByBound i) r ⌝ }
-{
-    let upper_bound = find_by(
-        plan,
-        marks,
-        table,
-        s,
-        Rule::Propagation(Edge::UpperBound(i)),
-    );
-    if is_found(upper_bound) {
-        return upper_bound;
-    }
-    find_by(
-        plan,
-        marks,
-        table,
-        s,
-        Rule::Propagation(Edge::LowerBound(i)),
-    )
-}
-
 // A ground by one link: by one of its two edges, or by rule 2, 3 or 4.
 fn find_by_link(plan: &[u8], marks: &[u8; 256], table: &[u32], s: Search, i: usize) -> Found
     requires { ⌜ Searched (now plan) (now marks) (now table) s × (i < planOf (now plan) .links) ⌝ }
     ensures { λ r. ⌜ Finds (before plan) (before table) s (ByLink i) r ⌝ }
 {
-    let bound = find_by_bound(plan, marks, table, s, i);
+    let upper_bound = Rule::Propagation(Edge::UpperBound(i));
+    let lower_bound = Rule::Propagation(Edge::LowerBound(i));
+    let bound = find_by_either(plan, marks, table, s, upper_bound, lower_bound);
     if is_found(bound) {
         return bound;
     }
-    let lower = find_by(plan, marks, table, s, Rule::LowerCase(i));
-    if is_found(lower) {
-        return lower;
-    }
-    let upper = find_by(plan, marks, table, s, Rule::UpperCase(i));
-    if is_found(upper) {
-        return upper;
+    let case = find_by_either(
+        plan,
+        marks,
+        table,
+        s,
+        Rule::LowerCase(i),
+        Rule::UpperCase(i),
+    );
+    if is_found(case) {
+        return case;
     }
     find_by(plan, marks, table, s, Rule::LetterRemoval(i))
 }
@@ -143,25 +143,14 @@ fn find_in_links(plan: &[u8], marks: &[u8; 256], table: &[u32], s: Search) -> Fo
     Found::Nothing
 }
 
-// A ground by a rule of one proposition.
-fn find_by_proposition(plan: &[u8], marks: &[u8; 256], table: &[u32], s: Search, j: usize) -> Found
-    requires { ⌜ Searched (now plan) (now marks) (now table) s × (j < planOf (now plan) .propositions) ⌝ }
-    ensures { λ r. ⌜ Finds (before plan) (before table) s (ByProposition j) r ⌝ }
-{
-    let own = find_by(plan, marks, table, s, Rule::OwnLiteral(j));
-    if is_found(own) {
-        return own;
-    }
-    find_by(plan, marks, table, s, Rule::LiteralRemoval(j))
-}
-
 fn find_in_propositions(plan: &[u8], marks: &[u8; 256], table: &[u32], s: Search) -> Found
     requires { ⌜ Searched (now plan) (now marks) (now table) s ⌝ }
     ensures { λ r. ⌜ Finds (before plan) (before table) s ByPropositions r ⌝ }
 {
     let n = propositions(plan);
     for j in 0..n {
-        let found = find_by_proposition(plan, marks, table, s, j);
+        let own = Rule::OwnLiteral(j);
+        let found = find_by_either(plan, marks, table, s, own, Rule::LiteralRemoval(j));
         if is_found(found) {
             return found;
         }
