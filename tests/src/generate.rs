@@ -4,7 +4,7 @@ pub mod devices;
 pub mod faults;
 pub mod listings;
 
-use crate::second::{self, Edge, Link, Plan, Verdict, MOST_CELLS, MOST_SECONDS};
+use crate::second::{self, Edge, Ground, Link, Origin, Plan, Verdict, MOST_CELLS, MOST_SECONDS};
 use std::{fmt, iter};
 
 // ---------------------------------------------------------------- random
@@ -323,9 +323,29 @@ fn seen_after_an_end(random: &mut Random, draft: &mut Draft, extra: usize) {
     draft.within(y, link.activation, random.between(0, 12), label);
 }
 
+/// Y is late if a fact is one way; a link's end comes longer after Y than the
+/// link takes, and not much longer after the fact is learnt. Under the link Y
+/// waits (rule 6), then the end (rule 1), and by the link's upper bound its
+/// activation.
+fn long_before_an_end(random: &mut Random, draft: &mut Draft, extra: usize) {
+    let (Some(link), Some(j)) = (any_link(random, draft), any_proposition(random, draft)) else { return };
+    let y = draft.later_point(random, link.end);
+    let way = random.pick(&[1, 2]);
+    let label = draft.label_with(random, j, way, extra);
+    draft.after(y, 0, random.between(3, 15), label);
+    let label = draft.any_label(random, extra);
+    draft.after(link.end, y, link.most + random.between(1, 6), label);
+    let label = draft.any_label(random, extra);
+    draft.within(link.end, draft.observing[j], link.most + random.between(1, 6), label);
+}
+
 /// The parts; `extra` is the chance of further digits in their labels.
 type Part = fn(&mut Random, &mut Draft, usize);
 const PARTS: [Part; 4] = [before_an_end, before_the_fact, own_fact, seen_after_an_end];
+
+/// The parts of smaller plans; in larger ones the last would take too long.
+const DECISIVE_PARTS: [Part; 5] =
+    [before_an_end, before_the_fact, own_fact, seen_after_an_end, long_before_an_end];
 
 fn any_link(random: &mut Random, draft: &Draft) -> Option<Link> {
     (!draft.links.is_empty()).then(|| draft.links[random.below(draft.links.len())])
@@ -352,24 +372,43 @@ fn any_edge(random: &mut Random, draft: &mut Draft, longest: i64, room: i64) {
 /// many rounds. What is left is kept, or broken later and for better reasons.
 /// There must be three points at least.
 fn loosen(random: &mut Random, draft: &mut Draft, rounds: u64) {
-    while let Some((rule, row)) = why_broken(random, draft, rounds) {
+    while let Some(reason) = why_broken(random, draft, rounds) {
         let edges = draft.edges.len();
-        if rule == 2 {
-            let end = draft.links[row].end;
-            draft.links[row].activation = draft.later_point(random, end);
-        } else if row < edges {
-            draft.edges.swap_remove(row);
-        } else if edges > 0 {
-            // Past the horizon: some edges wait for each other.
-            draft.edges.swap_remove(random.below(edges));
-        } else {
-            return;
+        match reason {
+            Reason::Edge(row) => drop(draft.edges.swap_remove(row)),
+            Reason::Link(row) => {
+                let end = draft.links[row].end;
+                draft.links[row].activation = draft.later_point(random, end);
+            }
+            // Some edges wait for each other.
+            Reason::Horizon if edges > 0 => drop(draft.edges.swap_remove(random.below(edges))),
+            Reason::Horizon => return,
         }
     }
 }
 
-/// A rule and row that make Z wait within so many rounds, if any do.
-fn why_broken(random: &mut Random, draft: &Draft, rounds: u64) -> Option<(u8, usize)> {
+/// What makes Z wait: an edge of the plan, a link from Z, or the horizon.
+#[derive(Clone, Copy)]
+enum Reason {
+    Edge(usize),
+    Link(usize),
+    Horizon,
+}
+
+impl Reason {
+    fn of(plan: &Plan, ground: Ground) -> Self {
+        match plan.origin(ground.row) {
+            _ if ground.rule == 2 => Reason::Link(ground.row),
+            Some(Origin::Plan(row)) => Reason::Edge(row),
+            Some(Origin::UpperBound(row) | Origin::LowerBound(row)) => Reason::Link(row),
+            Some(Origin::Horizon(_)) | None => Reason::Horizon,
+        }
+    }
+}
+
+/// What makes Z wait within so many rounds, if anything does. Z's first wait is
+/// by rule 1 or 2.
+fn why_broken(random: &mut Random, draft: &Draft, rounds: u64) -> Option<Reason> {
     let plan = second::read(&draft.bytes()).expect("a draft is an accepted plan");
     let mut before = Vec::new();
     let answer = second::run(&plan, rounds, |table, _| before = table.to_vec());
@@ -379,7 +418,7 @@ fn why_broken(random: &mut Random, draft: &Draft, rounds: u64) -> Option<(u8, us
     let mut reasons = Vec::new();
     second::each_given(&plan, &second::lines_held(&plan, &before), |ground, line| {
         if line.point == 0 {
-            reasons.push((ground.rule, ground.row));
+            reasons.push(Reason::of(&plan, ground));
         }
     });
     Some(random.pick(&reasons))
@@ -501,7 +540,7 @@ fn decisive(random: &mut Random) -> Draft {
     let n = p + k + random.between(2, 3) as usize;
     let mut draft = frame(random, n, p, k, 6);
     for _ in 0..random.between(1, 2) {
-        random.pick(&PARTS)(random, &mut draft, 5);
+        random.pick(&DECISIVE_PARTS)(random, &mut draft, 5);
     }
     for _ in 0..random.below(4) {
         any_edge(random, &mut draft, 4, 60);

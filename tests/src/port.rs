@@ -505,6 +505,67 @@ mod plan_refusal {
     }
 }
 
+// The edges of rule 1.
+mod rules {
+    use super::plan::edge_down;
+    use super::plan::edge_from;
+    use super::plan::edge_label;
+    use super::plan::edge_to;
+    use super::plan::edge_up;
+    use super::plan::link_activation;
+    use super::plan::link_finish;
+    use super::plan::link_least;
+    use super::plan::link_most;
+
+    // An edge of rule 1: a plan edge by its number, the horizon edge to a point, or one of a link's two, by the link's number.
+    #[derive(Clone, Copy)]
+    pub enum Edge {
+        PlanEdge(usize),
+        HorizonEdge(usize),
+        UpperBound(usize),
+        LowerBound(usize),
+    }
+
+    // What an edge says: from X to Y, under a label, Y - X is at most the weight. The weight is up less down.
+    #[derive(Clone, Copy)]
+    pub struct Constraint {
+        #[allow(dead_code)] // the check knows where the edges that it follows start
+        pub from: usize,
+        pub to: usize,
+        pub label: usize,
+        pub up: u64,
+        pub down: u64,
+    }
+
+    // The horizon is handed in: to find it anew would read every row.
+    pub fn constraint_of(plan: &[u8], horizon: u64, e: Edge) -> Constraint {
+        match e {
+            Edge::PlanEdge(i) => Constraint {
+                from: edge_from(plan, i),
+                to: edge_to(plan, i),
+                label: edge_label(plan, i),
+                up: edge_up(plan, i),
+                down: edge_down(plan, i),
+            },
+            Edge::HorizonEdge(x) => Constraint { from: 0, to: x, label: 0, up: horizon, down: 0 },
+            Edge::UpperBound(i) => Constraint {
+                from: link_activation(plan, i),
+                to: link_finish(plan, i),
+                label: 0,
+                up: link_most(plan, i),
+                down: 0,
+            },
+            Edge::LowerBound(i) => Constraint {
+                from: link_finish(plan, i),
+                to: link_activation(plan, i),
+                label: 0,
+                up: 0,
+                down: link_least(plan, i),
+            },
+        }
+    }
+}
+
 // One point's part of the next table, and the copy of a table's first cells.
 mod rules_fill {
     pub use self::cells::copy_cells;
@@ -640,6 +701,7 @@ mod rules_fill {
         use super::super::plan::points;
         use super::super::plan::propositions;
         use super::super::plan::width as point_width;
+        use super::super::rules::Edge;
         use super::cells::clear_in;
         use super::cells::copy_cells;
         use super::cells::propagate_in;
@@ -651,12 +713,27 @@ mod rules_fill {
         use super::rows::literal_row;
         use super::rows::lower_row;
         use super::rows::upper_row;
-        use super::shapes::Propagator;
 
-        // Rule 1 of edge i, if it starts at x.
+        // Rule 1 of an edge that starts at the part's point.
         fn edge_in(
             plan: &[u8],
             marks: &[u8; 256],
+            horizon: u64,
+            first: &[u32],
+            part: &mut [u32],
+            width: usize,
+            mask: usize,
+            e: Edge,
+        ) {
+            let by = edge_row(plan, horizon, e);
+            propagate_in(marks, first, part, width, mask, by);
+        }
+
+        // Rule 1 of plan edge i, if it starts at x.
+        fn plan_edge_in(
+            plan: &[u8],
+            marks: &[u8; 256],
+            horizon: u64,
             first: &[u32],
             part: &mut [u32],
             width: usize,
@@ -667,13 +744,14 @@ mod rules_fill {
             if edge_from(plan, i) != x {
                 return;
             }
-            let by = edge_row(plan, i);
-            propagate_in(marks, first, part, width, mask, by);
+            let e = Edge::PlanEdge(i);
+            edge_in(plan, marks, horizon, first, part, width, mask, e);
         }
 
         fn fill_edges(
             plan: &[u8],
             marks: &[u8; 256],
+            horizon: u64,
             first: &[u32],
             part: &mut [u32],
             width: usize,
@@ -682,23 +760,8 @@ mod rules_fill {
         ) {
             let n = edges(plan);
             for i in 0..n {
-                edge_in(plan, marks, first, part, width, mask, x, i);
+                plan_edge_in(plan, marks, horizon, first, part, width, mask, x, i);
             }
-        }
-
-        // Rule 1 of the horizon edge to y.
-        fn horizon_in(
-            _plan: &[u8],
-            marks: &[u8; 256],
-            horizon: u64,
-            first: &[u32],
-            part: &mut [u32],
-            width: usize,
-            mask: usize,
-            y: usize,
-        ) {
-            let by = Propagator { from: y, avoid: 0, add: 0, up: horizon, down: 0 };
-            propagate_in(marks, first, part, width, mask, by);
         }
 
         // Rule 1 of every horizon edge: they start at point 0.
@@ -713,7 +776,8 @@ mod rules_fill {
         ) {
             let n = points(plan);
             for y in 1..n {
-                horizon_in(plan, marks, horizon, first, part, width, mask, y);
+                let e = Edge::HorizonEdge(y);
+                edge_in(plan, marks, horizon, first, part, width, mask, e);
             }
         }
 
@@ -733,10 +797,39 @@ mod rules_fill {
             fill_horizon(plan, marks, horizon, first, part, width, mask);
         }
 
-        // Rule 2 of link i, if its activation is x.
+        // Rule 2 of link i, whose activation is the part's point.
         fn lower_in(
             plan: &[u8],
             marks: &[u8; 256],
+            first: &[u32],
+            part: &mut [u32],
+            width: usize,
+            mask: usize,
+            i: usize,
+        ) {
+            let by = lower_row(plan, i);
+            propagate_in(marks, first, part, width, mask, by);
+        }
+
+        // Rule 3 of link i, whose end is the part's point.
+        fn upper_in(
+            plan: &[u8],
+            marks: &[u8; 256],
+            first: &[u32],
+            part: &mut [u32],
+            width: usize,
+            mask: usize,
+            i: usize,
+        ) {
+            let by = upper_row(plan, i);
+            propagate_in(marks, first, part, width, mask, by);
+        }
+
+        // Rule 2 of link i and rule 1 of its upper bound, if its activation is x.
+        fn activation_in(
+            plan: &[u8],
+            marks: &[u8; 256],
+            horizon: u64,
             first: &[u32],
             part: &mut [u32],
             width: usize,
@@ -747,14 +840,16 @@ mod rules_fill {
             if link_activation(plan, i) != x {
                 return;
             }
-            let by = lower_row(plan, i);
-            propagate_in(marks, first, part, width, mask, by);
+            lower_in(plan, marks, first, part, width, mask, i);
+            let upper_bound = Edge::UpperBound(i);
+            edge_in(plan, marks, horizon, first, part, width, mask, upper_bound);
         }
 
-        // Rule 3 of link i, if its end is x.
-        fn upper_in(
+        // Rule 3 of link i and rule 1 of its lower bound, if its end is x.
+        fn finish_in(
             plan: &[u8],
             marks: &[u8; 256],
+            horizon: u64,
             first: &[u32],
             part: &mut [u32],
             width: usize,
@@ -765,8 +860,9 @@ mod rules_fill {
             if link_finish(plan, i) != x {
                 return;
             }
-            let by = upper_row(plan, i);
-            propagate_in(marks, first, part, width, mask, by);
+            upper_in(plan, marks, first, part, width, mask, i);
+            let lower_bound = Edge::LowerBound(i);
+            edge_in(plan, marks, horizon, first, part, width, mask, lower_bound);
         }
 
         // Rule 4 of link i.
@@ -775,10 +871,11 @@ mod rules_fill {
             remove_in(first, part, width, by, x);
         }
 
-        // Rules 2 to 4 of link i.
+        // Rules 2 to 4 of link i, and rule 1 of its two edges.
         fn fill_link(
             plan: &[u8],
             marks: &[u8; 256],
+            horizon: u64,
             first: &[u32],
             part: &mut [u32],
             width: usize,
@@ -786,14 +883,15 @@ mod rules_fill {
             x: usize,
             i: usize,
         ) {
-            lower_in(plan, marks, first, part, width, mask, x, i);
-            upper_in(plan, marks, first, part, width, mask, x, i);
+            activation_in(plan, marks, horizon, first, part, width, mask, x, i);
+            finish_in(plan, marks, horizon, first, part, width, mask, x, i);
             letter_in(plan, first, part, width, x, i);
         }
 
         fn fill_links(
             plan: &[u8],
             marks: &[u8; 256],
+            horizon: u64,
             first: &[u32],
             part: &mut [u32],
             width: usize,
@@ -802,7 +900,7 @@ mod rules_fill {
         ) {
             let n = links(plan);
             for i in 0..n {
-                fill_link(plan, marks, first, part, width, mask, x, i);
+                fill_link(plan, marks, horizon, first, part, width, mask, x, i);
             }
         }
 
@@ -846,19 +944,15 @@ mod rules_fill {
             let mask = label_mask(plan);
             let start = x * width;
             copy_cells(&first[start..], part, width);
-            fill_edges(plan, marks, first, part, width, mask, x);
+            fill_edges(plan, marks, horizon, first, part, width, mask, x);
             horizon_at(plan, marks, horizon, first, part, width, mask, x);
-            fill_links(plan, marks, first, part, width, mask, x);
+            fill_links(plan, marks, horizon, first, part, width, mask, x);
             fill_propositions(plan, first, part, width, x);
         }
     }
 
     // The shapes of a plan's rows: what a row avoids, adds and removes, as bits of a place.
     mod rows {
-        use super::super::plan::edge_down;
-        use super::super::plan::edge_label;
-        use super::super::plan::edge_to;
-        use super::super::plan::edge_up;
         use super::super::plan::labels;
         use super::super::plan::link_activation;
         use super::super::plan::link_finish;
@@ -866,6 +960,8 @@ mod rules_fill {
         use super::super::plan::link_most;
         use super::super::plan::observer;
         use super::super::plan::propositions;
+        use super::super::rules::constraint_of;
+        use super::super::rules::Edge;
         use super::shapes::Propagator;
         use super::shapes::Remover;
 
@@ -887,15 +983,10 @@ mod rules_fill {
             1 << (2 * j)
         }
 
-        // Rule 1 of edge i.
-        pub fn edge_row(plan: &[u8], i: usize) -> Propagator {
-            Propagator {
-                from: edge_to(plan, i),
-                avoid: 0,
-                add: edge_label(plan, i),
-                up: edge_up(plan, i),
-                down: edge_down(plan, i),
-            }
+        // Rule 1 of an edge.
+        pub fn edge_row(plan: &[u8], horizon: u64, e: Edge) -> Propagator {
+            let edge = constraint_of(plan, horizon, e);
+            Propagator { from: edge.to, avoid: 0, add: edge.label, up: edge.up, down: edge.down }
         }
 
         // Rule 2 of link i.

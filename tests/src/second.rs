@@ -105,9 +105,30 @@ pub struct Plan {
     pub links: Vec<Link>,
     pub edges: Vec<Edge>,
     pub horizon: i64,
+    /// Whether links add edges, as they do by 5/13; off only in plans to tell
+    /// these edges' effect by.
+    link_edges: bool,
+}
+
+/// What an edge of rule 1 comes from.
+#[derive(Clone, Copy, Debug, PartialEq, Eq)]
+pub enum Origin {
+    /// An edge of the plan, by its number.
+    Plan(usize),
+    /// The horizon, by the point that the edge leads to.
+    Horizon(usize),
+    /// The most that a link takes, by the link's number.
+    UpperBound(usize),
+    /// The least that a link takes, by the link's number.
+    LowerBound(usize),
 }
 
 impl Plan {
+    /// The same, but links add no edges, as before 5/13.
+    pub fn without_link_edges(&self) -> Plan {
+        Plan { link_edges: false, ..self.clone() }
+    }
+
     /// The link sets of one point: 2^k.
     pub fn sets(&self) -> usize {
         1 << self.links.len()
@@ -129,7 +150,7 @@ impl Plan {
     }
 
     /// The line that waits this long in a cell.
-    fn line_in(&self, cell: usize, wait: u32) -> Line {
+    pub fn line_in(&self, cell: usize, wait: u32) -> Line {
         Line {
             point: cell / self.labels() / self.sets(),
             set: (cell / self.labels() % self.sets()) as u8,
@@ -138,17 +159,48 @@ impl Plan {
         }
     }
 
-    /// The edge of a row of rule 1: "an edge number, or e + X for the horizon
-    /// edge to X, X from 1 to n − 1 (row e is out of range)".
-    pub fn edge(&self, row: usize) -> Option<Edge> {
+    /// The rows of rule 1 are below this number: e + n + 2k.
+    pub fn edge_rows(&self) -> usize {
+        let links = if self.link_edges { self.links.len() } else { 0 };
+        self.edges.len() + self.points + 2 * links
+    }
+
+    /// What a row of rule 1 stands for: "an edge number, or e + X for the
+    /// horizon edge to X, X from 1 to n − 1 (row e is out of range)"; "link i's
+    /// are rows e + n + 2i and e + n + 2i + 1, in that order" (5/13).
+    pub fn origin(&self, row: usize) -> Option<Origin> {
         let e = self.edges.len();
+        let n = self.points;
         if row < e {
-            Some(self.edges[row])
-        } else if e < row && row < e + self.points {
-            Some(Edge { from: 0, to: row - e, weight: self.horizon, label: 0 })
-        } else {
+            Some(Origin::Plan(row))
+        } else if row == e || row >= self.edge_rows() {
             None
+        } else if row < e + n {
+            Some(Origin::Horizon(row - e))
+        } else if (row - e - n).is_multiple_of(2) {
+            Some(Origin::UpperBound((row - e - n) / 2))
+        } else {
+            Some(Origin::LowerBound((row - e - n) / 2))
         }
+    }
+
+    /// The edge of a row of rule 1. The horizon "adds one edge from Z to every
+    /// other point, weight the horizon, label 0". "Every link now adds an edge
+    /// from A to C of weight y and one from C to A of weight −s, both with label
+    /// 0." (5/13)
+    pub fn edge(&self, row: usize) -> Option<Edge> {
+        Some(match self.origin(row)? {
+            Origin::Plan(number) => self.edges[number],
+            Origin::Horizon(point) => Edge { from: 0, to: point, weight: self.horizon, label: 0 },
+            Origin::UpperBound(number) => {
+                let Link { activation, end, most, .. } = self.links[number];
+                Edge { from: activation, to: end, weight: most, label: 0 }
+            }
+            Origin::LowerBound(number) => {
+                let Link { activation, end, least, .. } = self.links[number];
+                Edge { from: end, to: activation, weight: -least, label: 0 }
+            }
+        })
     }
 }
 
@@ -185,7 +237,7 @@ pub fn read(bytes: &[u8]) -> Result<Plan, Refusal> {
     }
 
     let horizon = horizon(n, &links, &edges);
-    Ok(Plan { points: n, observing, links, edges, horizon })
+    Ok(Plan { points: n, observing, links, edges, horizon, link_edges: true })
 }
 
 /// "n 2 to 32, p and k 0 to 4, e 0 to 128, n × 2^k × 4^p at most 16,384."
@@ -253,7 +305,8 @@ fn edge_of(ends: &[u8], row: &[u8]) -> Edge {
 }
 
 /// "M is the largest of all y and all −u with u < 0, or 0 if there are none.
-/// The horizon is n × M."
+/// The horizon is n × M." "M and the horizon are unaffected" by the edges that
+/// links add (5/13).
 fn horizon(n: usize, links: &[Link], edges: &[Edge]) -> i64 {
     let longest = links.iter().map(|link| link.most);
     let negative = edges.iter().filter(|edge| edge.weight < 0).map(|edge| -edge.weight);
@@ -278,7 +331,8 @@ pub fn starting_lines(plan: &Plan) -> Vec<Line> {
 }
 
 /// "1. Y waits w, label b plain; edge X to Y of weight u, label a; join of a
-/// and b plain; w − u > 0: X waits w − u, same set, joined label."
+/// and b plain; w − u > 0: X waits w − u, same set, joined label." The edge is
+/// one of the plan, of the horizon or of a link.
 fn rule_1(edge: &Edge, y: &Line) -> Option<Line> {
     let joined = join(edge.label, y.label);
     let wait = y.wait - edge.weight;
@@ -356,8 +410,8 @@ pub fn uses_second_parent(rule: u8) -> bool {
     rule == 4 || rule == 6
 }
 
-/// "Row is for rule 1 an edge number, or e + X for the horizon edge to X; for
-/// 2 to 4 a link; for 5 and 6 a proposition."
+/// "Row is for rule 1 an edge number, or e + X for the horizon edge to X", or
+/// one of a link's two (5/13); "for 2 to 4 a link; for 5 and 6 a proposition."
 pub fn row_in_range(plan: &Plan, rule: u8, row: usize) -> bool {
     match rule {
         1 => plan.edge(row).is_some(),
@@ -396,7 +450,7 @@ pub fn each_given(plan: &Plan, lines: &[Line], mut take: impl FnMut(Ground, Line
         }
     };
 
-    for row in 0..plan.edges.len() + plan.points {
+    for row in 0..plan.edge_rows() {
         if let Some(edge) = plan.edge(row) {
             at(edge.to).into_iter().for_each(|y| attempt(1, row, y, 0));
         }

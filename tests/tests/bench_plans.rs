@@ -11,7 +11,7 @@ const ANSWERS: [(&str, Verdict, u64, &[u32]); 10] = [
     ("c2", Verdict::Broken, 2, &[1, 6]),
     ("c3", Verdict::Kept, 1, &[0, 0]),
     ("c4", Verdict::Broken, 8, &[1, 4, 4]),
-    ("c5", Verdict::Kept, 3, &[0, 0, 2, 5]),
+    ("c5", Verdict::Kept, 2, &[0, 0, 2, 5]),
     ("c6", Verdict::Broken, 2, &[0, 1, 2, 5]),
     ("c7", Verdict::Broken, 2, &[1, 0, 3, 5]),
     ("c8", Verdict::Kept, 2, &[0, 0, 2, 5]),

@@ -3,7 +3,7 @@
 
 use sulgrach_tests::generate::{samples, Class, Sample, CLASSES};
 use sulgrach_tests::second::{self, Plan};
-use sulgrach_tests::tally::{has_long_timer, Tally};
+use sulgrach_tests::tally::{has_long_timer, LinkEdgeTally, Tally};
 
 fn read(sample: &Sample) -> Plan {
     second::read(&sample.plan).unwrap_or_else(|refusal| panic!("refused {refusal}: {sample}"))
@@ -51,6 +51,50 @@ fn many_plans_have_long_timers() {
         let least = count as usize / if class == Class::Small { 5 } else { 3 };
         assert!(long >= least, "{class:?}: only {long} of {count}");
     }
+}
+
+/// A library whose links add no edges is to be seen in each class: by cells or
+/// counts, since no verdict is known that these edges change.
+#[test]
+fn edges_of_links_tell() {
+    let classes = [
+        (Class::Small, 600, 500),
+        (Class::Decisive, 600, 300),
+        (Class::Mixed, 150, 150),
+        (Class::Extreme, 40, 30),
+        (Class::Slow, 60, 1_000),
+        (Class::Dense, 10, 3),
+    ];
+    let mut tallies = Vec::new();
+    for (class, count, cap) in classes {
+        let mut tally = LinkEdgeTally::default();
+        samples(class, 0, count).for_each(|sample| tally.add(&read(&sample), cap));
+        println!("{class:?}: {tally:?}");
+        assert!(tally.other_verdicts.is_empty(), "another verdict: {:?}", tally.other_verdicts);
+        let (told, links) = (tally.all.told(), tally.all.plans);
+        assert!(3 * told >= links, "{class:?}: only {told} of {links} plans with links");
+        tallies.push(tally);
+    }
+    each_edge_of_a_link_tells(&tallies);
+}
+
+/// Kept plans show both edges, by their cells and their rounds, and listings
+/// cannot do without either.
+fn each_edge_of_a_link_tells(tallies: &[LinkEdgeTally]) {
+    let sum = |count: fn(&LinkEdgeTally) -> usize| tallies.iter().map(count).sum::<usize>();
+    let kept = sum(|tally| tally.kept.plans);
+    let told = sum(|tally| tally.kept.told());
+    assert!(3 * told >= kept, "only {told} of {kept} kept plans with links");
+    // Cells of a kept plan can only differ by an upper bound.
+    let later = sum(|tally| tally.kept.later_activation);
+    let later_waiting = sum(|tally| tally.kept.later_waiting_activation);
+    assert!(4 * later >= kept && 30 * later_waiting >= kept, "{later} and {later_waiting} of {kept}");
+    let (more, fewer) = (sum(|tally| tally.kept.more_rounds), sum(|tally| tally.kept.fewer_rounds));
+    assert!(20 * more >= kept && 5 * fewer >= kept, "rounds: {more} and {fewer} of {kept}");
+
+    let searched = sum(|tally| tally.searched);
+    let (upper, lower) = (sum(|tally| tally.need_upper), sum(|tally| tally.need_lower));
+    assert!(30 * upper >= searched && 3 * lower >= searched, "{upper} and {lower} of {searched} listings");
 }
 
 #[test]

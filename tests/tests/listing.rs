@@ -5,25 +5,108 @@ use std::fmt::Display;
 use sulgrach_tests::compare::{self, Lengths, LONGEST_LISTING};
 use sulgrach_tests::generate::{hex, long_cycles, raised, random_with_lines, samples, with_rounds_and_lines};
 use sulgrach_tests::generate::{Class, Draft, Random, Sample};
-use sulgrach_tests::second::{self, listing_bytes, Edge, Verdict, EVERY_PLAN, MOST_LINES};
+use sulgrach_tests::second::{self, listing_bytes, Edge, Entry, Link, Verdict, EVERY_PLAN, MOST_LINES};
+use sulgrach_tests::tally::uses_bounds;
 use sulgrach_tests::times;
 
 #[test]
 fn small_and_decisive_plans() {
     for class in [Class::Small, Class::Decisive] {
+        let mut bounds = BoundsUsed::default();
         for sample in samples(class, 1_000_000, times(3_000)) {
-            in_every_way(&sample, 2_000);
+            bounds.add(&sample, in_every_way(&sample, 2_000));
         }
+        bounds.are_many();
     }
     compare::print_calls("small_and_decisive_plans");
 }
 
 #[test]
 fn mixed_plans() {
+    let mut bounds = BoundsUsed::default();
     for sample in samples(Class::Mixed, 1_000_000, times(300)) {
-        in_every_way(&sample, 120);
+        bounds.add(&sample, in_every_way(&sample, 120));
     }
+    bounds.are_many();
     compare::print_calls("mixed_plans");
+}
+
+/// How many listings were handed over, and how many of them have a line by an
+/// upper bound of a link, and by a lower one.
+#[derive(Debug, Default)]
+struct BoundsUsed {
+    listings: usize,
+    upper: usize,
+    lower: usize,
+}
+
+impl BoundsUsed {
+    fn add(&mut self, sample: &Sample, listing: Option<Vec<u8>>) {
+        let Some(listing) = listing else { return };
+        let plan = second::read(&sample.plan).expect("an accepted plan");
+        let [upper, lower] = uses_bounds(&plan, &second::read_listing(&listing).expect("a listing"));
+        self.listings += 1;
+        self.upper += usize::from(upper);
+        self.lower += usize::from(lower);
+    }
+
+    fn are_many(&self) {
+        println!("{self:?}");
+        assert!(self.upper > self.listings / 100 && self.lower > self.listings / 5, "{self:?}");
+    }
+}
+
+/// A broken plan of so many links, whose listing cannot do without both edges of
+/// each. Activation i is point 1 + 2i and waits 30, its end is the next point; three
+/// points after them break the plan in the fourth round. More points and edges
+/// follow that change nothing.
+fn with_links(links: usize, more_points: usize, more_edges: usize) -> Draft {
+    let edge = |from, to, weight| Edge { from, to, weight, label: 0 };
+    let link =
+        |i| Link { activation: 1 + 2 * i, end: 2 + 2 * i, least: 2 + i as i64, most: 12 + 3 * i as i64 };
+    let late = 1 + 2 * links;
+    let mut edges = vec![edge(late, 0, -50), edge(late + 1, late, -1), edge(late + 2, late + 1, -1)];
+    edges.push(edge(0, late + 2, 51));
+    edges.extend((0..links).map(|i| edge(1 + 2 * i, 0, -30)));
+    edges.extend((0..more_edges).map(|_| edge(late, 0, -1)));
+    let links = (0..links).map(link).collect();
+    Draft { points: late + 3 + more_points, observing: vec![], links, edges }
+}
+
+/// The first round raises each end to its least, and the third each activation
+/// under its own link. Only the two edges of a link give these lines: rows
+/// e + n + 2i and e + n + 2i + 1.
+#[test]
+fn edges_of_links_by_hand() {
+    for links in 1..=4 {
+        let all_points = 32 - (1 + 2 * links + 3);
+        for (more_points, more_edges) in [(0, 0), (1, 3), (all_points, 124 - links)] {
+            let draft = with_links(links, more_points, more_edges);
+            let bytes = draft.bytes();
+            let cells = draft.points << links;
+            let case = format!("{links} links, plan {}", hex(&bytes));
+            let mut random = Random::new(links as u64);
+            let lengths = Lengths::ample(&mut random, cells, LONGEST_LISTING);
+            let listing = compare::list(&mut random, &bytes, lengths, EVERY_PLAN, &case).expect(&case);
+            let entries = second::read_listing(&listing).expect(&case);
+            for (i, link) in draft.links.iter().enumerate() {
+                let first_row = draft.edges.len() + draft.points + 2 * i;
+                let upper = line_of(&entries, link.activation, 1 << i, 30);
+                assert_eq!((upper.rule, usize::from(upper.row)), (1, first_row), "link {i}, {case}");
+                let lower = line_of(&entries, link.end, 0, link.least as u32);
+                assert_eq!((lower.rule, usize::from(lower.row)), (1, first_row + 1), "link {i}, {case}");
+            }
+        }
+    }
+    compare::print_calls("edges_of_links_by_hand");
+}
+
+/// The listing's line of this point, set and wait.
+fn line_of(entries: &[Entry], point: usize, set: u8, wait: u32) -> &Entry {
+    let found = entries
+        .iter()
+        .find(|entry| usize::from(entry.point) == point && entry.set == set && entry.wait == wait);
+    found.unwrap_or_else(|| panic!("no line of point {point}, set {set}, wait {wait}: {entries:?}"))
 }
 
 #[test]
@@ -243,8 +326,8 @@ fn into_every_output(draft: &Draft, origin: &dyn Display) -> (usize, usize) {
 
 /// Lists a plan with the limit too small, just large enough, and larger than 32
 /// bits hold; if broken, with the output one byte too short, just long enough,
-/// and longer.
-fn in_every_way(sample: &Sample, cap: u64) {
+/// and longer. Returns the listing, if one is handed over.
+fn in_every_way(sample: &Sample, cap: u64) -> Option<Vec<u8>> {
     let plan = second::read(&sample.plan).unwrap_or_else(|refusal| panic!("refused {refusal}: {sample}"));
     let listed = second::run_and_list(&plan, cap);
     let rounds = listed.answer.rounds;
@@ -261,16 +344,20 @@ fn in_every_way(sample: &Sample, cap: u64) {
     let wide = wide[sample.seed as usize % wide.len()];
     list(rounds - 1, 200, false);
     match listed.answer.verdict {
-        Verdict::Spent => assert!(list(rounds, 200, false).is_none()),
+        Verdict::Spent => {
+            let listing = list(rounds, 200, false);
+            assert!(listing.is_none(), "{sample}");
+            listing
+        }
         Verdict::Kept => {
             list(wide, 0, true);
-            list(rounds, 200, false);
+            list(rounds, 200, false)
         }
         Verdict::Broken => {
             let length = listing_bytes(listed.lines.len());
             list(rounds, length - 1, true);
             list(rounds, length, true);
-            list(wide, length.min(LONGEST_LISTING), false);
+            list(wide, length.min(LONGEST_LISTING), false)
         }
     }
 }

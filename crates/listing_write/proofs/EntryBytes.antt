@@ -11,13 +11,13 @@ use lib.Seq.{sets, length-sets, getD-set-same, getD-set-other}
 use Rattle.plan.specs.Bytes.{byteAt, wordAt}
 use Rattle.plan.specs.Plan.{Plan}
 use Rattle.rules.specs.declared.Line.{Line}
-use Rattle.rules.specs.declared.Edge.the-variants.{PlanEdge, HorizonEdge}
+use Rattle.rules.specs.declared.Edge.the-variants.{PlanEdge, HorizonEdge, UpperBound, LowerBound}
 use Rattle.rules.specs.declared.Ground.{Ground}
 use Rattle.rules.specs.declared.Rule.{Rule}
 use Rattle.rules.specs.declared.Rule.the-variants.{Propagation, LowerCase, UpperCase, LetterRemoval, OwnLiteral, LiteralRemoval}
 use Rattle.rules.specs.Derivations.{InPlan}
-use Rattle.replay.specs.Listings.{longAt, lineCount, headAt, headLine, headRule, groundAt, rowOf, firstParent, secondParent, ruleOf}
-use borrow.Author.Tests.{lt-ltb, le-ltb}
+use Rattle.replay.specs.Listings.{longAt, lineCount, headAt, headLine, headRule, groundAt, rowOf, firstParent, secondParent, boundRule, ruleOf}
+use borrow.Author.Tests.{lt-ltb, le-ltb, ne-eqb}
 use Rattle.listing_write.specs.Entry.{wordBytes, headBytes, groundBytes, ruleNumber, rowNumber, secondNumber, SameFields, LinePut}
 
 -- ---- runs of bytes
@@ -67,15 +67,27 @@ unfolding lineCount wordAt byteAt
 count-put bs cs m h e = rw (e, sets-inside (wordBytes m) bs 0 0 (omega arith) h, sets-inside (wordBytes m) bs 0 1 (omega arith) h) (word-is m)
 
 -- ---- a rule and its row are named by their numbers
-module _ (P : Plan) where
+module _ (P : Plan) (some-point : 0 < P .points) where
+  -- from row e + n on
+  bound-named : (b : ℕ) (r : Rule) → boundRule P b ≡ some r → ruleOf P 1 (P .edges + P .points + b) ≡ some r
+  bound-named b r h =
+      let d : P .edges + P .points + b - (P .edges + P .points) ≡ b = omega arith in
+      rw (le-ltb (P .edges + P .points + b) (P .edges) (omega arith), ne-eqb (P .edges + P .points + b) (P .edges) (omega arith), le-ltb (P .edges + P .points + b) (P .edges + P .points) (omega arith), d) h
+
   pub rule-named : (r : Rule) → InPlan P r → ruleOf P (ruleNumber r) (rowNumber P r) ≡ some r
   rule-named (Propagation (PlanEdge i)) h = rw (lt-ltb i (P .edges) h) refl
   rule-named (Propagation (HorizonEdge x)) h =
-      let a : P .edges ≤ P .edges + x = omega arith in
-      let b : P .edges < P .edges + x = omega (arith, h .0) in
-      let c : P .edges + x < P .edges + P .points = omega (arith, h .1) in
       let d : P .edges + x - P .edges ≡ x = omega arith in
-      rw (le-ltb (P .edges + x) (P .edges) a, lt-ltb (P .edges) (P .edges + x) b, lt-ltb (P .edges + x) (P .edges + P .points) c, d) refl
+      rw (le-ltb (P .edges + x) (P .edges) (omega arith), ne-eqb (P .edges + x) (P .edges) (omega (arith, h .0)), lt-ltb (P .edges + x) (P .edges + P .points) (omega (arith, h .1)), d) refl
+  rule-named (Propagation (UpperBound i)) h =
+      let d : 2 * i / 2 ≡ i = omega arith in
+      let m : 2 * i % 2 ≡ 0 = omega arith in
+      bound-named (2 * i) (Propagation (UpperBound i)) (rw (d, m, lt-ltb i (P .links) h) refl)
+  rule-named (Propagation (LowerBound i)) h =
+      let d : (2 * i + 1) / 2 ≡ i = omega arith in
+      let m : (2 * i + 1) % 2 ≡ 1 = omega arith in
+      let s : P .edges + P .points + 2 * i + 1 ≡ P .edges + P .points + (2 * i + 1) = omega arith in
+      ap (ruleOf P 1) s ∙ bound-named (2 * i + 1) (Propagation (LowerBound i)) (rw (d, m, lt-ltb i (P .links) h) refl)
   rule-named (LowerCase i) h = rw (lt-ltb i (P .links) h) refl
   rule-named (UpperCase i) h = rw (lt-ltb i (P .links) h) refl
   rule-named (LetterRemoval i) h = rw (lt-ltb i (P .links) h) refl
@@ -203,14 +215,14 @@ module _ (bs : List ℕ) (m i : ℕ) (l : Line) (rule row a b : ℕ) (count : li
     }
 
 -- ---- all that putting a line changes; the code's numbers n, w and s are those of the rule, its row and the second parent
-pub line-put : (P : Plan) (m i : ℕ) (l : Line) (g : Ground) (n w s : ℕ) (bs cs ds : List ℕ) → InPlan P (g .by) → lineCount bs ≡ m → length bs ≡ 2 + 14 * m → i < m
+pub line-put : (P : Plan) (m i : ℕ) (l : Line) (g : Ground) (n w s : ℕ) (bs cs ds : List ℕ) → 0 < P .points → InPlan P (g .by) → lineCount bs ≡ m → length bs ≡ 2 + 14 * m → i < m
     → n ≡ ruleNumber (g .by) → w ≡ rowNumber P (g .by) → s ≡ secondNumber (g .by) (g .second) → cs ≡ sets bs (2 + 8 * i) (headBytes l n) → ds ≡ sets cs (2 + 8 * m + 6 * i) (groundBytes w (g .first) s) → LinePut P m i l g bs ds
 unfolding headed written
-line-put P m i l g n w s bs cs ds h c e k en ew es ec ed = let a = g .first in subst (LinePut P m i l g bs) (sym (ed ∙ ap (λ (x : List ℕ). sets x (2 + 8 * m + 6 * i) (groundBytes w a s)) ec)) (record {
+line-put P m i l g n w s bs cs ds z h c e k en ew es ec ed = let a = g .first in subst (LinePut P m i l g bs) (sym (ed ∙ ap (λ (x : List ℕ). sets x (2 + 8 * m + 6 * i) (groundBytes w a s)) ec)) (record {
   as-long = as-long bs m i l n w a s c e k;
   counted = count-kept bs m i l n w a s c e k;
   line-is = head-line bs m i l n w a s c e k;
-  rule-is = rw (head-rule bs m i l n w a s c e k, ground-row bs m i l n w a s c e k, en, ew) (rule-named P (g .by) h);
+  rule-is = rw (head-rule bs m i l n w a s c e k, ground-row bs m i l n w a s c e k, en, ew) (rule-named P z (g .by) h);
   first-is = ground-first bs m i l n w a s c e k;
   second-is = ground-second bs m i l n w a s c e k ∙ es;
   others = fields-kept bs m i l n w a s c e k;

@@ -10,7 +10,7 @@ use Rattle.plan.specs.Refusal.{Accepted}
 use Rattle.rules.specs.declared.Ground.{Ground}
 use Rattle.rules.specs.declared.Line.{Line}
 use Rattle.rules.specs.declared.Edge.{Edge}
-use Rattle.rules.specs.declared.Edge.the-variants.{PlanEdge, HorizonEdge}
+use Rattle.rules.specs.declared.Edge.the-variants.{PlanEdge, HorizonEdge, UpperBound, LowerBound}
 use Rattle.rules.specs.declared.Rule.{Rule}
 use Rattle.rules.specs.declared.Rule.the-variants.{Propagation, LowerCase, UpperCase, LetterRemoval, OwnLiteral, LiteralRemoval}
 use Rattle.rules.specs.Rules.{usesSecond}
@@ -39,10 +39,12 @@ ruleNumber (LetterRemoval i) = 4
 ruleNumber (OwnLiteral j) = 5
 ruleNumber (LiteralRemoval j) = 6
 
--- "for rule 1 an edge number, or e + X for the horizon edge to X"
+-- for rule 1 an edge number, e + Y for the horizon edge to Y, or e + n + 2i and e + n + 2i + 1 for the edges of link i
 abbrev pub edgeNumber : Plan → Edge → ℕ
 edgeNumber P (PlanEdge i) = i
 edgeNumber P (HorizonEdge x) = P .edges + x
+edgeNumber P (UpperBound i) = P .edges + P .points + 2 * i
+edgeNumber P (LowerBound i) = P .edges + P .points + 2 * i + 1
 
 abbrev pub rowNumber : Plan → Rule → ℕ
 rowNumber P (Propagation e) = edgeNumber P e

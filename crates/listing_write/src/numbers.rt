@@ -1,5 +1,6 @@
 // The numbers by which a listing names rules, rows and parents.
 use plan::edges;
+use plan::points;
 use rules::Edge;
 use rules::Rule;
 use rules::uses_second;
@@ -32,6 +33,8 @@ fn edge_number(plan: &[u8], e: Edge) -> usize
     match e {
         Edge::PlanEdge(i) => i,
         Edge::HorizonEdge(x) => edges(plan) + x,
+        Edge::UpperBound(i) => edges(plan) + points(plan) + 2 * i,
+        Edge::LowerBound(i) => edges(plan) + points(plan) + 2 * i + 1,
     }
 }
 

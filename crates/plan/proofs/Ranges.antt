@@ -162,11 +162,11 @@ module _ (bs : List ℕ) (P : Plan) (j : Judged bs P) where
 module _ (bs : List ℕ) where
   most-under : (i : ℕ) → i < planOf bs .links → planOf bs .most i ≤ planOf bs .largest
   unfolding planOf largestOf
-  most-under i h = le-trans (greatest-ge (mostAt bs) _ i h) (le-max-left _ _)
+  most-under i h = omega (arith, greatest-ge (mostAt bs) _ i h)
 
   down-under : (i : ℕ) → i < planOf bs .edges → planOf bs .down i ≤ planOf bs .largest
   unfolding planOf largestOf
-  down-under i h = le-trans (greatest-ge (downAt bs) _ i h) (le-max-right _ _)
+  down-under i h = omega (arith, greatest-ge (downAt bs) _ i h)
 
   largest-under : (b : ℕ) → ((i : ℕ) → i < planOf bs .links → planOf bs .most i ≤ b) → ((i : ℕ) → i < planOf bs .edges → planOf bs .down i ≤ b) → planOf bs .largest ≤ b
   unfolding planOf largestOf

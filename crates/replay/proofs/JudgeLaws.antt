@@ -3,7 +3,7 @@ use mathlib.Core.Path.{_≡_, refl, sym, ap, subst, _∙_}
 use mathlib.Core.Bool.{Bool, true, false, cond, not, _&&_, _||_, and-false}
 use mathlib.Core.List.{List}
 use mathlib.Core.Option.{Option, none, some}
-use Prim.Native.Nat.{ℕ, zero, suc, _+_, _-_, _*_, _%_, _^_, _≤_, _<_}
+use Prim.Native.Nat.{ℕ, zero, suc, _+_, _-_, _*_, _/_, _%_, _^_, _≤_, _<_}
 use mathlib.Core.Logic.{⊎-elim}
 use native.Mathlib.Nat.{lt-of-lt-of-le, eq-or-lt-of-le, le-of-suc-le-suc, le-antisymm}
 use native.Mathlib.Numerals.{add-one}
@@ -21,7 +21,7 @@ use Rattle.plan.proofs.LabelLaws.{four-pos}
 use Rattle.plan.proofs.Ranges.{accepted-well-formed, accepted-bounded}
 use Rattle.plan.proofs.Widths.{shift, labels-small}
 use Rattle.rules.specs.declared.Line.{Line}
-use Rattle.rules.specs.declared.Edge.the-variants.{PlanEdge, HorizonEdge}
+use Rattle.rules.specs.declared.Edge.the-variants.{PlanEdge, HorizonEdge, UpperBound, LowerBound}
 use Rattle.rules.specs.declared.Rule.{Rule}
 use Rattle.rules.specs.declared.Rule.the-variants.{Propagation, LowerCase, UpperCase, LetterRemoval, OwnLiteral, LiteralRemoval}
 use Rattle.rules.specs.Lines.{startingLine}
@@ -32,7 +32,7 @@ use Rattle.rules_apply.proofs.ApplyLaws.{both, first-fails, rest-fails, told, t
 use Rattle.replay.specs.declared.Ruled.{Ruled}
 use Rattle.replay.specs.declared.Ruled.the-variants.{By, Nothing}
 use Rattle.rules.specs.Rules.{usesSecond}
-use Rattle.replay.specs.Listings.{longAt, lineCount, headAt, headLine, headRule, rowOf, firstParent, secondParent, ruleOf, parentLine}
+use Rattle.replay.specs.Listings.{longAt, lineCount, headAt, headLine, headRule, rowOf, firstParent, secondParent, boundRule, ruleOf, parentLine}
 use Rattle.replay.specs.Replaying.{laidOut, inRange, parentsKnown, follows, judgeRule, judgeLine, judgeLines, judgeLast, judgeListing, replay}
 use Rattle.replay.specs.Derives.{ListingDerives}
 use Rattle.replay.specs.AfterReplay.{AfterReplay}
@@ -88,13 +88,23 @@ pub plan-edge-named : (P : Plan) (row e : ℕ) → e ≡ P .edges → row < e �
 plan-edge-named P row e q h = rw (below row e (P .edges) q h)
 
 pub row-e : (P : Plan) (row e : ℕ) → e ≡ P .edges → row ≡ e → none ≡ ruleOf P 1 row
-row-e P row e q h = rw (le-ltb row (P .edges) (omega arith), le-ltb (P .edges) row (omega arith))
-
-pub row-past : (P : Plan) (row e n : ℕ) → e ≡ P .edges → n ≡ P .points → e + n ≤ row → none ≡ ruleOf P 1 row
-row-past P row e n q p h = rw (le-ltb row (P .edges) (omega arith), rest-fails (ltb (P .edges) row) (ltb row (P .edges + P .points)) (le-ltb row (P .edges + P .points) (omega arith)))
+row-e P row e q h = rw (le-ltb row (P .edges) (omega arith), eq-eqb row (P .edges) (omega arith))
 
 pub horizon-edge-named : (P : Plan) (row e n : ℕ) → e ≡ P .edges → n ≡ P .points → (row ≡ e → ⊥) → e ≤ row → row < e + n → some (Propagation (HorizonEdge (row - e))) ≡ ruleOf P 1 row
-horizon-edge-named P row e n q p d l h = rw (q, le-ltb row (P .edges) (omega arith), lt-ltb (P .edges) row (omega arith), lt-ltb row (P .edges + P .points) (omega arith))
+horizon-edge-named P row e n q p d l h = rw (q, le-ltb row (P .edges) (omega arith), ne-eqb row (P .edges) (omega arith), lt-ltb row (P .edges + P .points) (omega arith))
+
+pub bound-row : (P : Plan) (row e n : ℕ) (o : Option Rule) → e ≡ P .edges → n ≡ P .points → (row ≡ e → ⊥) → e + n ≤ row → o ≡ boundRule P (row - (e + n)) → o ≡ ruleOf P 1 row
+bound-row P row e n o q p d h k = rw (le-ltb row (P .edges) (omega arith), ne-eqb row (P .edges) (omega arith), le-ltb row (P .edges + P .points) (omega arith), ← q, ← p) k
+
+-- an edge of a link by its number
+pub no-bound : (P : Plan) (b k : ℕ) → k ≡ P .links → k ≤ b / 2 → none ≡ boundRule P b
+no-bound P b k e h = rw (not-below (b / 2) k (P .links) e h)
+
+pub upper-bound-named : (P : Plan) (b k : ℕ) → k ≡ P .links → b / 2 < k → b % 2 ≡ 0 → some (Propagation (UpperBound (b / 2))) ≡ boundRule P b
+upper-bound-named P b k e h even = rw (below (b / 2) k (P .links) e h, eq-eqb (b % 2) 0 even)
+
+pub lower-bound-named : (P : Plan) (b k : ℕ) → k ≡ P .links → b / 2 < k → (b % 2 ≡ 0 → ⊥) → some (Propagation (LowerBound (b / 2))) ≡ boundRule P b
+lower-bound-named P b k e h odd = rw (below (b / 2) k (P .links) e h, ne-eqb (b % 2) 0 odd)
 
 pub link-none : (P : Plan) (rule row k : ℕ) → 2 ≤ rule → rule ≤ 4 → k ≡ P .links → k ≤ row → none ≡ ruleOf P rule row
 link-none P zero row k a b e h = absurd (omega arith)
@@ -128,7 +138,7 @@ rule-one P rule row o q e = rw q e
 pub rule-past : (P : Plan) (rule row : ℕ) → 6 < rule → none ≡ ruleOf P rule row
 rule-past P rule row h = let q : rule ≡ suc (suc (suc (suc (suc (suc (suc (rule - 7))))))) = omega arith in rw q
 
-pub ruleset rules-named = (plan-edge-named, row-e, row-past, horizon-edge-named, link-none, lower-named, upper-named, letter-named, proposition-none, own-named, literal-named, rule-one, rule-past)
+pub ruleset rules-named = (plan-edge-named, row-e, horizon-edge-named, bound-row, no-bound, upper-bound-named, lower-bound-named, link-none, lower-named, upper-named, letter-named, proposition-none, own-named, literal-named, rule-one, rule-past)
 
 -- ---- parents
 pub starting-parent : (P : Plan) (bs : List ℕ) (q n : ℕ) → n ≡ P .points → q < n → startingLine q ≡ parentLine P bs q

@@ -4,7 +4,7 @@ use mathlib.Core.Bool.{Bool, true, false, cond, not, _&&_, _||_}
 use mathlib.Core.Logic.{inl, inr, ⊎-elim}
 use mathlib.Core.List.{List, [], _∷_, map, List·Memᴰ, List·Memᴰ·head, List·Memᴰ·tail}
 use mathlib.Core.Option.{Option, none, some}
-use Prim.Native.Nat.{ℕ, zero, suc, _+_, _-_, _*_, _^_, _≤_, _<_}
+use Prim.Native.Nat.{ℕ, zero, suc, _+_, _-_, _*_, _/_, _%_, _^_, _≤_, _<_}
 use native.Mathlib.Decide.{ℕ-discrete}
 use native.Mathlib.Nat.{eq-or-lt-of-le, le-of-suc-le-suc}
 use native.Mathlib.Omega.{arith}
@@ -18,7 +18,7 @@ use Rattle.plan.specs.Layout.{planOf}
 use Rattle.plan.specs.Refusal.{refusal}
 use Rattle.plan.proofs.Ranges.{accepted-well-formed}
 use Rattle.rules.specs.declared.Line.{Line}
-use Rattle.rules.specs.declared.Edge.the-variants.{PlanEdge, HorizonEdge}
+use Rattle.rules.specs.declared.Edge.the-variants.{PlanEdge, HorizonEdge, UpperBound, LowerBound}
 use Rattle.rules.specs.declared.Rule.{Rule}
 use Rattle.rules.specs.declared.Rule.the-variants.{Propagation, LowerCase, UpperCase, LetterRemoval, OwnLiteral, LiteralRemoval}
 use Rattle.rules.specs.Lines.{fromTo, startingLine}
@@ -28,7 +28,7 @@ use Rattle.rules_apply.specs.Applying.{givesLine}
 use Rattle.rules_apply.proofs.SameLines.{gives-facts, facts-give}
 use Rattle.rules.specs.Derivations.{InPlan, Parent, Given, Follows, Derivation, SelfWaitBy}
 use Rattle.rules.specs.Rules.{usesSecond}
-use Rattle.replay.specs.Listings.{lineCount, headLine, headRule, rowOf, firstParent, secondParent, linesIn, just, edgeOf, ruleOf, parentLine}
+use Rattle.replay.specs.Listings.{lineCount, headLine, headRule, rowOf, firstParent, secondParent, linesIn, just, boundOf, boundRule, edgeRule, ruleOf, parentLine}
 use Rattle.replay.specs.Replaying.{laidOut, inRange, parentsKnown, follows, judgeRule, judgeLine, orElse, judgeLines, judgeLast, judgeListing, replay}
 use Rattle.replay.specs.Derives.{LineDerives, ListingDerives}
 
@@ -80,16 +80,31 @@ module _ (P : Plan) where
   named true q r f e = subst (InPlan P) (let z : q ≡ r = cc in z) (f tt)
   named false q r f e = never e
 
-  edge-named : (b : Bool) (i : ℕ) (r : Rule) → ltb i (P .edges) ≡ b → edgeOf P b i ≡ some r → InPlan P r
-  edge-named true i r q e = subst (InPlan P) (let z : Propagation (PlanEdge i) ≡ r = cc in z) (ltb-true i (P .edges) q)
-  edge-named false i r q e =
-      named (ltb (P .edges) i && ltb i (P .edges + P .points)) (Propagation (HorizonEdge (i - P .edges))) r
-      (λ t. let u : P .edges < i = ltb→lt (P .edges) i (search and-l) in let v : i < P .edges + P .points = ltb→lt i (P .edges + P .points) (search (and-l, and-r)) in (omega arith, omega arith))
-      e
+  bound-in : (b : ℕ) (even : Bool) → b / 2 < P .links → InPlan P (Propagation (cond even (UpperBound (b / 2)) (LowerBound (b / 2))))
+  bound-in b true h = h
+  bound-in b false h = h
+
+  bound-named : (b : ℕ) (r : Rule) → boundRule P b ≡ some r → InPlan P r
+  bound-named b r = named (ltb (b / 2) (P .links)) (Propagation (boundOf b)) r (λ t. bound-in b (eqb (b % 2) 0) (ltb→lt (b / 2) (P .links) t))
+
+  horizon-in : (i : ℕ) → ltb i (P .edges) ≡ false → eqb i (P .edges) ≡ false → ltb i (P .edges + P .points) ≡ true → InPlan P (Propagation (HorizonEdge (i - P .edges)))
+  horizon-in i f g t = let h = ltb-false i (P .edges) f in (omega (arith, eqb-false i (P .edges) g), omega (arith, ltb-true i (P .edges + P .points) t))
+
+  -- of two, by a test
+  either-named : (b : Bool) (o p : Option Rule) (r : Rule) → cond b o p ≡ some r → (b ≡ true → o ≡ some r → InPlan P r) → (b ≡ false → p ≡ some r → InPlan P r) → InPlan P r
+  either-named true o p r e f g = f refl e
+  either-named false o p r e f g = g refl e
+
+  edge-named : (i : ℕ) (r : Rule) → edgeRule P i ≡ some r → InPlan P r
+  edge-named i r e =
+      either-named (ltb i (P .edges)) _ _ r e (λ t. named true (Propagation (PlanEdge i)) r (λ u. ltb-true i (P .edges) t))
+      (λ f d. either-named (eqb i (P .edges)) _ _ r d (λ t. never)
+      (λ g c. either-named (ltb i (P .edges + P .points)) _ _ r c (λ t. named true (Propagation (HorizonEdge (i - P .edges))) r (λ u. horizon-in i f g t))
+      (λ h. bound-named _ r)))
 
   pub in-plan : (rule i : ℕ) (r : Rule) → ruleOf P rule i ≡ some r → InPlan P r
   in-plan zero i r e = never e
-  in-plan (suc zero) i r e = edge-named (ltb i (P .edges)) i r refl e
+  in-plan (suc zero) i r e = edge-named i r e
   in-plan (suc (suc zero)) i r e = named (ltb i (P .links)) (LowerCase i) r (ltb→lt i (P .links)) e
   in-plan (suc (suc (suc zero))) i r e = named (ltb i (P .links)) (UpperCase i) r (ltb→lt i (P .links)) e
   in-plan (suc (suc (suc (suc zero)))) i r e = named (ltb i (P .links)) (LetterRemoval i) r (ltb→lt i (P .links)) e

@@ -1,13 +1,14 @@
 -- The bytes of a listing (10.2, 10.3): m, then m heads, then m grounds.
-use mathlib.Core.Bool.{Bool, true, false, cond, _&&_}
+use mathlib.Core.Bool.{Bool, true, false, cond}
 use mathlib.Core.List.{List, map}
 use mathlib.Core.Option.{Option, none, some}
-use Prim.Native.Nat.{ℕ, zero, suc, _+_, _-_, _*_}
-use lib.Dec.{ltb}
+use Prim.Native.Nat.{ℕ, zero, suc, _+_, _-_, _*_, _/_, _%_}
+use lib.Dec.{ltb, eqb}
 use Rattle.plan.specs.Bytes.{byteAt, wordAt}
 use Rattle.plan.specs.Plan.{Plan}
 use Rattle.rules.specs.declared.Line.{Line}
-use Rattle.rules.specs.declared.Edge.the-variants.{PlanEdge, HorizonEdge}
+use Rattle.rules.specs.declared.Edge.{Edge}
+use Rattle.rules.specs.declared.Edge.the-variants.{PlanEdge, HorizonEdge, UpperBound, LowerBound}
 use Rattle.rules.specs.declared.Rule.{Rule}
 use Rattle.rules.specs.declared.Rule.the-variants.{Propagation, LowerCase, UpperCase, LetterRemoval, OwnLiteral, LiteralRemoval}
 use Rattle.rules.specs.Lines.{below, startingLine}
@@ -52,15 +53,25 @@ abbrev pub just : Bool → Rule → Option Rule
 just true r = some r
 just false r = none
 
--- 10.3: the row of rule 1: a plan edge below e, or the horizon edge to X at e + X; row e is neither
-abbrev pub edgeOf : Plan → Bool → ℕ → Option Rule
-edgeOf P true row = some (Propagation (PlanEdge row))
-edgeOf P false row = just (ltb (P .edges) row && ltb row (P .edges + P .points)) (Propagation (HorizonEdge (row - P .edges)))
+-- 10.3: the edges of links, counted from 0: link i's are 2i, its upper bound, and 2i + 1, its lower bound
+abbrev pub boundOf : ℕ → Edge
+boundOf b = cond (eqb (b % 2) 0) (UpperBound (b / 2)) (LowerBound (b / 2))
+
+abbrev pub boundRule : Plan → ℕ → Option Rule
+boundRule P b = just (ltb (b / 2) (P .links)) (Propagation (boundOf b))
+
+-- 10.3: the row of rule 1: a plan edge below e, none at e, the horizon edge to Y at e + Y, and from e + n on the edges of links
+abbrev pub edgeRule : Plan → ℕ → Option Rule
+edgeRule P row =
+    cond (ltb row (P .edges)) (some (Propagation (PlanEdge row)))
+    (cond (eqb row (P .edges)) none
+    (cond (ltb row (P .edges + P .points)) (some (Propagation (HorizonEdge (row - P .edges))))
+    (boundRule P (row - (P .edges + P .points)))))
 
 -- 10.3: the rule of that number with its row, if both are in range
 abbrev pub ruleOf : Plan → ℕ → ℕ → Option Rule
 ruleOf P zero row = none
-ruleOf P (suc zero) row = edgeOf P (ltb row (P .edges)) row
+ruleOf P (suc zero) row = edgeRule P row
 ruleOf P (suc (suc zero)) row = just (ltb row (P .links)) (LowerCase row)
 ruleOf P (suc (suc (suc zero))) row = just (ltb row (P .links)) (UpperCase row)
 ruleOf P (suc (suc (suc (suc zero)))) row = just (ltb row (P .links)) (LetterRemoval row)

@@ -47,6 +47,21 @@ const RULE: u32 = 10;
 
 const LAST: u32 = 11;
 
+// The edges of links by their number: link i's are 2i, its upper bound, and 2i + 1, its lower bound.
+fn bound_rule(plan: &[u8], number: usize) -> Ruled
+    requires { ⌜ number < 65536 ⌝ }
+    ensures { λ r. ⌜ ruleOption r ≡ listings.boundRule (planOf (before plan)) number ⌝ }
+{
+    let i = number / 2;
+    if links(plan) <= i {
+        return Ruled::Nothing;
+    }
+    if number % 2 == 0 {
+        return Ruled::By(Rule::Propagation(Edge::UpperBound(i)));
+    }
+    Ruled::By(Rule::Propagation(Edge::LowerBound(i)))
+}
+
 // The edge of rule 1 that a row names.
 fn edge_rule(plan: &[u8], row: usize) -> Ruled
     requires { ⌜ row < 65536 ⌝ }
@@ -59,10 +74,11 @@ fn edge_rule(plan: &[u8], row: usize) -> Ruled
     if row == e {
         return Ruled::Nothing;
     }
-    if e + points(plan) <= row {
-        return Ruled::Nothing;
+    let first_bound = e + points(plan);
+    if row < first_bound {
+        return Ruled::By(Rule::Propagation(Edge::HorizonEdge(row - e)));
     }
-    Ruled::By(Rule::Propagation(Edge::HorizonEdge(row - e)))
+    bound_rule(plan, row - first_bound)
 }
 
 // Rules 2 to 4 of a link.

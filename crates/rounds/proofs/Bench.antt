@@ -1,4 +1,4 @@
--- Document 01's ten bench plans: none is turned down, and with any limit from 8 on the check answers as its table says.
+-- The ten bench plans (16.1): none is turned down, and with any limit from 8 on the check answers as the table says.
 use mathlib.Core.Path.{_≡_, refl, ap, _∙_}
 use mathlib.Core.Bool.{Bool, true, false}
 use mathlib.Core.List.{List, [], _∷_, map}
@@ -35,7 +35,7 @@ rows =
     ∷ breaks (2 ∷ 0 ∷ 0 ∷ 2 ∷ 0 ∷ 1 ∷ 1 ∷ 0 ∷ 0 ∷ 5 ∷ 0 ∷ 0 ∷ 255 ∷ 250 ∷ 0 ∷ 0 ∷ []) 2 (1 ∷ 6 ∷ [])
     ∷ keeps (2 ∷ 0 ∷ 0 ∷ 0 ∷ []) 1 (0 ∷ 0 ∷ [])
     ∷ breaks (3 ∷ 0 ∷ 0 ∷ 2 ∷ 1 ∷ 2 ∷ 2 ∷ 1 ∷ 255 ∷ 255 ∷ 0 ∷ 0 ∷ 0 ∷ 0 ∷ 0 ∷ 0 ∷ []) 8 (1 ∷ 4 ∷ 4 ∷ [])
-    ∷ keeps (2 ∷ 0 ∷ 1 ∷ 0 ∷ 0 ∷ 1 ∷ 0 ∷ 2 ∷ 0 ∷ 5 ∷ []) 3 (0 ∷ 0 ∷ 2 ∷ 5 ∷ [])
+    ∷ keeps (2 ∷ 0 ∷ 1 ∷ 0 ∷ 0 ∷ 1 ∷ 0 ∷ 2 ∷ 0 ∷ 5 ∷ []) 2 (0 ∷ 0 ∷ 2 ∷ 5 ∷ [])
     ∷ breaks (2 ∷ 0 ∷ 1 ∷ 1 ∷ 0 ∷ 1 ∷ 0 ∷ 1 ∷ 0 ∷ 2 ∷ 0 ∷ 5 ∷ 0 ∷ 4 ∷ 0 ∷ 0 ∷ []) 2 (0 ∷ 1 ∷ 2 ∷ 5 ∷ [])
     ∷ breaks (2 ∷ 0 ∷ 1 ∷ 1 ∷ 0 ∷ 1 ∷ 1 ∷ 0 ∷ 0 ∷ 2 ∷ 0 ∷ 5 ∷ 255 ∷ 253 ∷ 0 ∷ 0 ∷ []) 2 (1 ∷ 0 ∷ 3 ∷ 5 ∷ [])
     ∷ keeps (2 ∷ 0 ∷ 1 ∷ 1 ∷ 0 ∷ 1 ∷ 1 ∷ 0 ∷ 0 ∷ 2 ∷ 0 ∷ 5 ∷ 255 ∷ 254 ∷ 0 ∷ 0 ∷ []) 2 (0 ∷ 0 ∷ 2 ∷ 5 ∷ [])

@@ -12,7 +12,7 @@ use Rattle.plan.specs.LinkSet.{contains}
 use Rattle.plan.specs.Plan.{Plan, width, cells}
 use Rattle.plan.proofs.Ranges.{WellFormed}
 use Rattle.rules.specs.declared.Line.{Line}
-use Rattle.rules.specs.declared.Edge.the-variants.{PlanEdge, HorizonEdge}
+use Rattle.rules.specs.declared.Edge.the-variants.{PlanEdge, HorizonEdge, UpperBound, LowerBound}
 use Rattle.rules.specs.declared.Rule.{Rule}
 use Rattle.rules.specs.declared.Rule.the-variants.{Propagation, LowerCase, UpperCase, LetterRemoval, OwnLiteral, LiteralRemoval}
 use Rattle.rules.specs.Lines.{cellOf, startingLine}
@@ -42,6 +42,8 @@ module _ (P : Plan) (wf : WellFormed P) where
     first-source : (r : Rule) → InPlan P r → (l m : Line) → Fires P r l m → result P r l m .point ≡ x → Is (contains set (l .point))
     first-source (Propagation (PlanEdge i)) h l m f e = rw (f .0) (sources .edges-in i h .to-in e)
     first-source (Propagation (HorizonEdge y)) h l m f e = rw (f .0) (sources .horizon-in (sym e) y (h .1))
+    first-source (Propagation (UpperBound i)) h l m f e = rw (f .0) (sources .links-in i h .finish-in e)
+    first-source (Propagation (LowerBound i)) h l m f e = rw (f .0) (sources .links-in i h .activation-in)
     first-source (LowerCase i) h l m f e = rw (f .0) (sources .links-in i h .finish-in e)
     first-source (UpperCase i) h l m f e = rw (f .0) (sources .links-in i h .activation-in)
     first-source (LetterRemoval i) h l m f e = rw e (sources .links-in i h .own-in)

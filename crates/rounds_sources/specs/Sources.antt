@@ -12,11 +12,11 @@ use Rattle.rules.specs.Tables.{next}
 use Rattle.rules_fill.specs.Parts.{part}
 use Rattle.rounds_sources.specs.PointSets.{allPoints, pointIf, unionOf}
 
--- rule 1 of edge i
+-- rule 1 of plan edge i
 unfoldable pub edgeSources : Plan → ℕ → ℕ → ℕ
 edgeSources P x i = pointIf (eqb (P .from i) x) (P .to i)
 
--- rules 2 to 4 of link i
+-- rules 2 to 4 of link i, and rule 1 of its two edges
 unfoldable pub linkSources : Plan → ℕ → ℕ → ℕ
 linkSources P x i = bitOr (bitOr (2 ^ x) (2 ^ P .activation i)) (pointIf (eqb (P .activation i) x) (P .finish i))
 

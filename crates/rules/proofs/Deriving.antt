@@ -12,7 +12,7 @@ use Rattle.plan.specs.Plan.{Plan}
 use Rattle.rules.specs.declared.Line.{Line}
 use Rattle.rules.specs.declared.Rule.{Rule}
 use Rattle.rules.specs.declared.Rule.the-variants.{Propagation, LowerCase, UpperCase, LetterRemoval, OwnLiteral, LiteralRemoval}
-use Rattle.rules.specs.Rules.{edgeTo, edgeLabel, lessWeight, fires}
+use Rattle.rules.specs.Rules.{constraintOf, lessWeight, fires}
 use Rattle.rules.specs.Derivations.{Starting, Parent, Given, Follows, Derivation}
 
 -- ---- starting lines
@@ -32,7 +32,7 @@ starts {l} h s b w = record { inside = h; is-starting = λ i. record { point = l
 -- ---- the test of a rule
 -- `fires` of Rules as facts: the rule takes these two lines as its parents
 abbrev pub Fires : Plan → Rule → Line → Line → Type 0
-Fires P (Propagation e) l m = (l .point ≡ edgeTo P e) × Is (plain (P .propositions) (l .label)) × Is (plain (P .propositions) (join (P .propositions) (edgeLabel P e) (l .label))) × (0 < lessWeight P e (l .wait))
+Fires P (Propagation e) l m = (l .point ≡ constraintOf P e .to) × Is (plain (P .propositions) (l .label)) × Is (plain (P .propositions) (join (P .propositions) (constraintOf P e .label) (l .label))) × (0 < lessWeight (constraintOf P e) (l .wait))
 Fires P (LowerCase i) l m = (l .point ≡ P .finish i) × Is (not (contains (l .set) i)) × Is (plain (P .propositions) (l .label)) × (0 < l .wait - P .least i)
 Fires P (UpperCase i) l m = (l .point ≡ P .activation i) × Is (plain (P .propositions) (l .label))
 Fires P (LetterRemoval i) l m = Is (contains (l .set) i) × (m .point ≡ P .activation i) × Is (not (contains (m .set) i))

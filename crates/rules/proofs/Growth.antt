@@ -8,7 +8,6 @@ use lib.ListN.{length, getD}
 use Rattle.plan.specs.Plan.{Plan, cells}
 use Rattle.plan.proofs.Ranges.{WellFormed}
 use Rattle.rules.specs.declared.Line.{Line}
-use Rattle.rules.specs.declared.Edge.the-variants.{PlanEdge, HorizonEdge}
 use Rattle.rules.specs.declared.Rule.{Rule}
 use Rattle.rules.specs.declared.Rule.the-variants.{Propagation, LowerCase, UpperCase, LetterRemoval, OwnLiteral, LiteralRemoval}
 use Rattle.rules.specs.Lines.{cellOf}
@@ -16,14 +15,14 @@ use Rattle.rules.specs.Rules.{result}
 use Rattle.rules.specs.Tables.{next}
 use Rattle.rules.specs.Derivations.{InPlan, Parent}
 use Rattle.rules.proofs.Deriving.{no-wait}
+use Rattle.rules.proofs.InRange.{edge-range}
 use Rattle.rules.proofs.Cells.{cell-lt}
 use Rattle.rules.proofs.Next.{Cell, FromTable, next-is}
 
 module _ (P : Plan) (wf : WellFormed P) where
   -- a rule adds M to its first parent's wait at most
   pub result-more : (r : Rule) → InPlan P r → (l m : Line) → result P r l m .wait ≤ l .wait + P .largest
-  result-more (Propagation (PlanEdge i)) h l m = omega (arith, wf .down-le i h)
-  result-more (Propagation (HorizonEdge x)) h l m = omega arith
+  result-more (Propagation e) h l m = omega (arith, edge-range P wf e h .down-le)
   result-more (LowerCase i) h l m = omega arith
   result-more (UpperCase i) h l m = omega (arith, wf .most-le i h)
   result-more (LetterRemoval i) h l m = omega arith

@@ -14,10 +14,12 @@ use Rattle.plan.specs.Plan.{Plan}
 use Rattle.plan.proofs.LabelLaws.{four-pos, clear-le, digit-none, join-lt}
 use Rattle.plan.proofs.Ranges.{WellFormed}
 use Rattle.rules.specs.declared.Line.{Line}
-use Rattle.rules.specs.declared.Edge.the-variants.{PlanEdge, HorizonEdge}
+use Rattle.rules.specs.declared.Edge.{Edge}
+use Rattle.rules.specs.declared.Edge.the-variants.{PlanEdge, HorizonEdge, UpperBound, LowerBound}
+use Rattle.rules.specs.declared.Constraint.{Constraint}
 use Rattle.rules.specs.declared.Rule.{Rule}
 use Rattle.rules.specs.declared.Rule.the-variants.{Propagation, LowerCase, UpperCase, LetterRemoval, OwnLiteral, LiteralRemoval}
-use Rattle.rules.specs.Rules.{result}
+use Rattle.rules.specs.Rules.{constraintOf, result}
 use Rattle.rules.specs.Derivations.{Starting, InPlan, Parent, Given}
 use Rattle.rules.proofs.Deriving.{Fires, given-fires, no-set, no-label}
 
@@ -25,6 +27,13 @@ pub record InRange (P : Plan) (l : Line) : Type 0 where
   pub point-in : l .point < P .points
   pub set-in : l .set < 2 ^ P .links
   pub label-in : l .label < 4 ^ P .propositions
+
+-- what is asked of any edge of rule 1: its ends are points of the plan, its label has p digits, and rule 1 adds M at most
+pub record ConstraintIn (P : Plan) (c : Constraint) : Type 0 where
+  pub from-in : c .from < P .points
+  pub to-in : c .to < P .points
+  pub label-in : c .label < 4 ^ P .propositions
+  pub down-le : c .down ≤ P .largest
 
 remove-le : (s i : ℕ) → remove s i ≤ s
 unfolding remove
@@ -35,10 +44,15 @@ remove-le s i = go (contains s i)
     go false = omega arith
 
 module _ (P : Plan) (wf : WellFormed P) where
+  pub edge-range : (e : Edge) → InPlan P (Propagation e) → ConstraintIn P (constraintOf P e)
+  edge-range (PlanEdge i) h = record { from-in = wf .from-in i h; to-in = wf .to-in i h; label-in = wf .label-in i h; down-le = wf .down-le i h }
+  edge-range (HorizonEdge x) h = record { from-in = omega (arith, wf .two); to-in = h .1; label-in = four-pos _; down-le = omega arith }
+  edge-range (UpperBound i) h = record { from-in = wf .activation-in i h; to-in = wf .finish-in i h .1; label-in = four-pos _; down-le = omega arith }
+  edge-range (LowerBound i) h = record { from-in = wf .finish-in i h .1; to-in = wf .activation-in i h; label-in = four-pos _; down-le = omega (arith, wf .durations i h, wf .most-le i h) }
+
   pub result-range : (r : Rule) → InPlan P r → (l m : Line) → InRange P l → InRange P m → InRange P (result P r l m)
   unfolding union insert
-  result-range (Propagation (PlanEdge i)) h l m a b = record { point-in = wf .from-in i h; set-in = a .set-in; label-in = join-lt _ _ _ }
-  result-range (Propagation (HorizonEdge x)) h l m a b = record { point-in = omega (arith, wf .two); set-in = a .set-in; label-in = join-lt _ _ _ }
+  result-range (Propagation e) h l m a b = record { point-in = edge-range e h .from-in; set-in = a .set-in; label-in = join-lt _ _ _ }
   result-range (LowerCase i) h l m a b = record { point-in = wf .activation-in i h; set-in = a .set-in; label-in = a .label-in }
   result-range (UpperCase i) h l m a b = record { point-in = wf .finish-in i h .1; set-in = or-lt _ _ _ (a .set-in) (pow-lt h); label-in = a .label-in }
   result-range (LetterRemoval i) h l m a b = record { point-in = a .point-in; set-in = or-lt _ _ _ (le-trans (suc-le-suc (remove-le (l .set) i)) (a .set-in)) (b .set-in); label-in = join-lt _ _ _ }

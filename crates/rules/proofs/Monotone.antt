@@ -6,11 +6,10 @@ use native.Mathlib.Nat.{le-refl, le-trans}
 use native.Mathlib.Omega.{arith}
 use Rattle.plan.specs.Plan.{Plan}
 use Rattle.rules.specs.declared.Line.{Line}
-use Rattle.rules.specs.declared.Edge.{Edge}
-use Rattle.rules.specs.declared.Edge.the-variants.{PlanEdge, HorizonEdge}
+use Rattle.rules.specs.declared.Constraint.{Constraint}
 use Rattle.rules.specs.declared.Rule.{Rule}
 use Rattle.rules.specs.declared.Rule.the-variants.{Propagation, LowerCase, UpperCase, LetterRemoval, OwnLiteral, LiteralRemoval}
-use Rattle.rules.specs.Rules.{lessWeight, result}
+use Rattle.rules.specs.Rules.{constraintOf, lessWeight, result}
 use Rattle.rules.specs.Derivations.{Parent, Given}
 use Rattle.rules.proofs.Deriving.{Fires, facts-fire, given-fires}
 
@@ -18,13 +17,12 @@ use Rattle.rules.proofs.Deriving.{Fires, facts-fire, given-fires}
 abbrev pub waiting : Line → ℕ → Line
 waiting l w = record { point = l .point; set = l .set; label = l .label; wait = w }
 
-module _ (P : Plan) where
-  lessWeight-mono : (e : Edge) (v w : ℕ) → v ≤ w → lessWeight P e v ≤ lessWeight P e w
-  lessWeight-mono (PlanEdge i) v w h = omega arith
-  lessWeight-mono (HorizonEdge x) v w h = omega arith
+less-mono : (c : Constraint) (v w : ℕ) → v ≤ w → lessWeight c v ≤ lessWeight c w
+less-mono c v w h = omega arith
 
+module _ (P : Plan) where
   pub fires-mono : (r : Rule) (l m : Line) (v w : ℕ) → l .wait ≤ v → m .wait ≤ w → Fires P r l m → Fires P r (waiting l v) (waiting m w)
-  fires-mono (Propagation e) l m v w h k t = (t .0, t .1, t .2, le-trans (t .3) (lessWeight-mono e _ _ h))
+  fires-mono (Propagation e) l m v w h k t = (t .0, t .1, t .2, le-trans (t .3) (less-mono (constraintOf P e) _ _ h))
   fires-mono (LowerCase i) l m v w h k t = (t .0, t .1, t .2, omega arith)
   fires-mono (UpperCase i) l m v w h k t = t
   fires-mono (LetterRemoval i) l m v w h k t = t
@@ -32,7 +30,7 @@ module _ (P : Plan) where
   fires-mono (LiteralRemoval j) l m v w h k t = (t .0, t .1, t .2, le-trans (t .3) k)
 
   pub result-mono : (r : Rule) (l m : Line) (v w : ℕ) → l .wait ≤ v → m .wait ≤ w → result P r l m .wait ≤ result P r (waiting l v) (waiting m w) .wait
-  result-mono (Propagation e) l m v w h k = lessWeight-mono e _ _ h
+  result-mono (Propagation e) l m v w h k = less-mono (constraintOf P e) _ _ h
   result-mono (LowerCase i) l m v w h k = omega arith
   result-mono (UpperCase i) l m v w h k = omega arith
   result-mono (LetterRemoval i) l m v w h k = omega arith

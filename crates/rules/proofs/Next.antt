@@ -13,12 +13,13 @@ use lib.Seq.{ext-getD}
 use Rattle.plan.specs.Plan.{Plan, cells}
 use Rattle.plan.proofs.Ranges.{WellFormed}
 use Rattle.rules.specs.declared.Line.{Line}
-use Rattle.rules.specs.declared.Edge.the-variants.{PlanEdge, HorizonEdge}
+use Rattle.rules.specs.declared.Edge.{Edge}
+use Rattle.rules.specs.declared.Edge.the-variants.{PlanEdge, HorizonEdge, UpperBound, LowerBound}
 use Rattle.rules.specs.declared.Rule.{Rule}
 use Rattle.rules.specs.declared.Rule.the-variants.{Propagation, LowerCase, UpperCase, LetterRemoval, OwnLiteral, LiteralRemoval}
 use Rattle.rules.specs.Lines.{fromTo, below, cellOf, lineAt, startingLine, starting}
 use Rattle.rules.specs.Rules.{fires, result}
-use Rattle.rules.specs.Tables.{raiseCell, each, linesOf, rulesOf, secondsOf, allGiven, raised, next}
+use Rattle.rules.specs.Tables.{raiseCell, each, linesOf, edgesOf, rulesOf, secondsOf, allGiven, raised, next}
 use Rattle.rules.specs.Derivations.{Starting, InPlan, Parent, Given}
 use Rattle.rules.proofs.Raising.{Raises, raises-cell, raises-then, raises-iff}
 use Rattle.rules.proofs.InRange.{InRange, range}
@@ -98,22 +99,35 @@ in-cond : (b : Bool) (x k : Line) → Is b → x ≡ k → List·Memᴰ k (cond 
 in-cond true x k t e = List·Memᴰ·head (sym e)
 in-cond false x k t e = absurd t
 
--- ---- the rules of a plan
+-- ---- the edges and the rules of a plan
+in-edges : (P : Plan) (e : Edge) → InPlan P (Propagation e) → List·Memᴰ e (edgesOf P)
+in-edges P (PlanEdge i) h = let m = in-map PlanEdge 0 (P .edges) i (omega arith) (omega arith) in search Memᴰ·append-left
+in-edges P (HorizonEdge x) h = let m = in-map HorizonEdge 1 (P .points - 1) x (omega arith) (omega arith) in search (Memᴰ·append-left, Memᴰ·append-right)
+in-edges P (UpperBound i) h = let m = in-map UpperBound 0 (P .links) i (omega arith) (omega arith) in search (Memᴰ·append-left, Memᴰ·append-right)
+in-edges P (LowerBound i) h = let m = in-map LowerBound 0 (P .links) i (omega arith) (omega arith) in search Memᴰ·append-right
+
+of-edges : (P : Plan) (e : Edge) → List·Memᴰ e (edgesOf P) → InPlan P (Propagation e)
+of-edges P =
+    of-append Q _ _ (of-map Q PlanEdge 0 (P .edges) (λ x a b. omega arith))
+    (of-append Q _ _ (of-map Q HorizonEdge 1 (P .points - 1) (λ x a b. omega arith))
+    (of-append Q _ _ (of-map Q UpperBound 0 (P .links) (λ x a b. omega arith)) (of-map Q LowerBound 0 (P .links) (λ x a b. omega arith))))
+  where
+    Q : Edge → Type 0
+    Q e = InPlan P (Propagation e)
+
 of-rules : (P : Plan) (r : Rule) → List·Memᴰ r (rulesOf P) → InPlan P r
 of-rules P =
-    of-append Q _ _ (of-map Q (λ i. Propagation (PlanEdge i)) 0 (P .edges) (λ x a b. omega arith))
-    (of-append Q _ _ (of-map Q (λ x. Propagation (HorizonEdge x)) 1 (P .points - 1) (λ x a b. omega arith))
+    of-append Q _ _ (λ r m. let t = Memᴰ·of-map Propagation (edgesOf P) m in subst Q (t .2) (of-edges P (t .0) (t .1)))
     (of-append Q _ _ (of-map Q LowerCase 0 (P .links) (λ x a b. omega arith))
     (of-append Q _ _ (of-map Q UpperCase 0 (P .links) (λ x a b. omega arith))
     (of-append Q _ _ (of-map Q LetterRemoval 0 (P .links) (λ x a b. omega arith))
-    (of-append Q _ _ (of-map Q OwnLiteral 0 (P .propositions) (λ x a b. omega arith)) (of-map Q LiteralRemoval 0 (P .propositions) (λ x a b. omega arith)))))))
+    (of-append Q _ _ (of-map Q OwnLiteral 0 (P .propositions) (λ x a b. omega arith)) (of-map Q LiteralRemoval 0 (P .propositions) (λ x a b. omega arith))))))
   where
     Q : Rule → Type 0
     Q = InPlan P
 
 in-rules : (P : Plan) (r : Rule) → InPlan P r → List·Memᴰ r (rulesOf P)
-in-rules P (Propagation (PlanEdge i)) h = let m = in-map (λ i. Propagation (PlanEdge i)) 0 (P .edges) i (omega arith) (omega arith) in search Memᴰ·append-left
-in-rules P (Propagation (HorizonEdge x)) h = let m = in-map (λ x. Propagation (HorizonEdge x)) 1 (P .points - 1) x (omega arith) (omega arith) in search (Memᴰ·append-left, Memᴰ·append-right)
+in-rules P (Propagation e) h = let m = Memᴰ·map Propagation (in-edges P e h) in search Memᴰ·append-left
 in-rules P (LowerCase i) h = let m = in-map LowerCase 0 (P .links) i (omega arith) (omega arith) in search (Memᴰ·append-left, Memᴰ·append-right)
 in-rules P (UpperCase i) h = let m = in-map UpperCase 0 (P .links) i (omega arith) (omega arith) in search (Memᴰ·append-left, Memᴰ·append-right)
 in-rules P (LetterRemoval i) h = let m = in-map LetterRemoval 0 (P .links) i (omega arith) (omega arith) in search (Memᴰ·append-left, Memᴰ·append-right)

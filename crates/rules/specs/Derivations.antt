@@ -7,16 +7,18 @@ use lib.Dec.{T as Is}
 use Rattle.plan.specs.Label.{plain}
 use Rattle.plan.specs.Plan.{Plan}
 use Rattle.rules.specs.declared.Line.{Line}
-use Rattle.rules.specs.declared.Edge.the-variants.{PlanEdge, HorizonEdge}
+use Rattle.rules.specs.declared.Edge.the-variants.{PlanEdge, HorizonEdge, UpperBound, LowerBound}
 use Rattle.rules.specs.declared.Rule.{Rule}
 use Rattle.rules.specs.declared.Rule.the-variants.{Propagation, LowerCase, UpperCase, LetterRemoval, OwnLiteral, LiteralRemoval}
 use Rattle.rules.specs.Lines.{cellOf, startingLine}
 use Rattle.rules.specs.Rules.{fires, result}
 
--- 7.1: the rule's row is one of the plan's links, edges, horizon edges or observing points
+-- 7.1: the rule's row is one of the plan's: an edge of 6.7, a link, or a proposition
 abbrev pub InPlan : Plan → Rule → Type 0
 InPlan P (Propagation (PlanEdge i)) = i < P .edges
 InPlan P (Propagation (HorizonEdge x)) = (0 < x) × (x < P .points)
+InPlan P (Propagation (UpperBound i)) = i < P .links
+InPlan P (Propagation (LowerBound i)) = i < P .links
 InPlan P (LowerCase i) = i < P .links
 InPlan P (UpperCase i) = i < P .links
 InPlan P (LetterRemoval i) = i < P .links

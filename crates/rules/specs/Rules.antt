@@ -8,34 +8,28 @@ use Rattle.plan.specs.LinkSet.{contains, union, insert, remove}
 use Rattle.plan.specs.Plan.{Plan}
 use Rattle.rules.specs.declared.Line.{Line}
 use Rattle.rules.specs.declared.Edge.{Edge}
-use Rattle.rules.specs.declared.Edge.the-variants.{PlanEdge, HorizonEdge}
+use Rattle.rules.specs.declared.Edge.the-variants.{PlanEdge, HorizonEdge, UpperBound, LowerBound}
+use Rattle.rules.specs.declared.Constraint.{Constraint}
 use Rattle.rules.specs.declared.Rule.{Rule}
 use Rattle.rules.specs.declared.Rule.the-variants.{Propagation, LowerCase, UpperCase, LetterRemoval, OwnLiteral, LiteralRemoval}
 
--- ---- 6.7: the edges of rule 1, the plan's and the horizon's
-abbrev pub edgeFrom : Plan → Edge → ℕ
-edgeFrom P (PlanEdge i) = P .from i
-edgeFrom P (HorizonEdge x) = 0
-
-abbrev pub edgeTo : Plan → Edge → ℕ
-edgeTo P (PlanEdge i) = P .to i
-edgeTo P (HorizonEdge x) = x
-
-abbrev pub edgeLabel : Plan → Edge → ℕ
-edgeLabel P (PlanEdge i) = P .label i
-edgeLabel P (HorizonEdge x) = 0
+-- ---- 6.7: what each edge of rule 1 says. The record Constraint is the code's struct: to - from ≤ up - down under a label.
+abbrev pub constraintOf : Plan → Edge → Constraint
+constraintOf P (PlanEdge i) = record { from = P .from i; to = P .to i; label = P .label i; up = P .up i; down = P .down i }
+constraintOf P (HorizonEdge x) = record { from = 0; to = x; label = 0; up = P .horizon; down = 0 }
+constraintOf P (UpperBound i) = record { from = P .activation i; to = P .finish i; label = 0; up = P .most i; down = 0 }
+constraintOf P (LowerBound i) = record { from = P .finish i; to = P .activation i; label = 0; up = 0; down = P .least i }
 
 -- 6.1: w - u, and 0 where that is not above 0
-abbrev pub lessWeight : Plan → Edge → ℕ → ℕ
-lessWeight P (PlanEdge i) w = w + P .down i - P .up i
-lessWeight P (HorizonEdge x) w = w - P .horizon
+abbrev pub lessWeight : Constraint → ℕ → ℕ
+lessWeight c w = w + c .down - c .up
 
 -- ---- the rules: first parent l, second m
 abbrev pub fires : Plan → Rule → Line → Line → Bool
 -- 6.1 (zLp/Nc/Uc): a line of Y with a plain label, over an edge from X to Y; the join is plain, and the wait less the weight is above 0
 fires P (Propagation e) l m =
-    eqb (l .point) (edgeTo P e) && plain (P .propositions) (l .label)
-    && plain (P .propositions) (join (P .propositions) (edgeLabel P e) (l .label)) && ltb 0 (lessWeight P e (l .wait))
+    eqb (l .point) (constraintOf P e .to) && plain (P .propositions) (l .label)
+    && plain (P .propositions) (join (P .propositions) (constraintOf P e .label) (l .label)) && ltb 0 (lessWeight (constraintOf P e) (l .wait))
 -- 6.2 (zLc/Cc): a line of C without its link and with a plain label, whose wait is above s
 fires P (LowerCase i) l m =
     eqb (l .point) (P .finish i) && not (contains (l .set) i) && plain (P .propositions) (l .label)
@@ -61,7 +55,7 @@ usesSecond (LiteralRemoval j) = true
 
 abbrev pub result : Plan → Rule → Line → Line → Line
 -- 6.1: X waits w - u, the same set, the joined label
-result P (Propagation e) l m = record { point = edgeFrom P e; set = l .set; label = join (P .propositions) (edgeLabel P e) (l .label); wait = lessWeight P e (l .wait) }
+result P (Propagation e) l m = record { point = constraintOf P e .from; set = l .set; label = join (P .propositions) (constraintOf P e .label) (l .label); wait = lessWeight (constraintOf P e) (l .wait) }
 -- 6.2: A waits w - s, the same set and label
 result P (LowerCase i) l m = record { point = P .activation i; set = l .set; label = l .label; wait = l .wait - P .least i }
 -- 6.3: C waits w + y, the set with the link added, the same label

@@ -6,7 +6,8 @@ use lib.Dec.{ltb}
 use lib.ListN.{getD, set}
 use Rattle.plan.specs.Plan.{Plan, cells}
 use Rattle.rules.specs.declared.Line.{Line}
-use Rattle.rules.specs.declared.Edge.the-variants.{PlanEdge, HorizonEdge}
+use Rattle.rules.specs.declared.Edge.{Edge}
+use Rattle.rules.specs.declared.Edge.the-variants.{PlanEdge, HorizonEdge, UpperBound, LowerBound}
 use Rattle.rules.specs.declared.Rule.{Rule}
 use Rattle.rules.specs.declared.Rule.the-variants.{Propagation, LowerCase, UpperCase, LetterRemoval, OwnLiteral, LiteralRemoval}
 use Rattle.rules.specs.Lines.{fromTo, below, cellOf, lineAt, startingLine, starting}
@@ -20,12 +21,18 @@ each (x ∷ xs) f = f x ++ each xs f
 abbrev pub linesOf : Plan → List ℕ → List Line
 linesOf P T = starting P ++ each (below (cells P)) (λ c. cond (ltb 0 (getD T c 0)) (lineAt P T c ∷ []) [])
 
+-- 6.7: the edges of rule 1
+abbrev pub edgesOf : Plan → List Edge
+edgesOf P =
+    map PlanEdge (below (P .edges)) ++ (map HorizonEdge (fromTo 1 (P .points - 1))
+    ++ (map UpperBound (below (P .links)) ++ map LowerBound (below (P .links))))
+
 -- 8.2: the rules of a plan, a rule for each of its rows
 abbrev pub rulesOf : Plan → List Rule
 rulesOf P =
-    map (λ i. Propagation (PlanEdge i)) (below (P .edges)) ++ (map (λ x. Propagation (HorizonEdge x)) (fromTo 1 (P .points - 1))
+    map Propagation (edgesOf P)
     ++ (map LowerCase (below (P .links)) ++ (map UpperCase (below (P .links)) ++ (map LetterRemoval (below (P .links))
-    ++ (map OwnLiteral (below (P .propositions)) ++ map LiteralRemoval (below (P .propositions)))))))
+    ++ (map OwnLiteral (below (P .propositions)) ++ map LiteralRemoval (below (P .propositions))))))
 
 -- 8.2: the second parents to try: any one for a rule that ignores it
 abbrev pub secondsOf : List Line → Rule → List Line

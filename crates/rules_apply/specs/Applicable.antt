@@ -2,28 +2,29 @@
 use mathlib.Core.Path.{_≡_}
 use mathlib.Core.Bool.{_&&_}
 use mathlib.Core.List.{List}
-use Prim.Native.Nat.{ℕ, _+_, _-_, _^_, _≤_, _<_}
+use Prim.Native.Nat.{ℕ, _^_, _≤_, _<_}
 use lib.Dec.{ltb, eqb}
 use Rattle.plan.specs.Label.{join, plain, Marks}
 use Rattle.plan.specs.Plan.{Plan}
 use Rattle.plan.specs.Layout.{planOf}
 use Rattle.plan.specs.Refusal.{Accepted}
 use Rattle.rules.specs.declared.Line.{Line}
+use Rattle.rules.specs.declared.Constraint.{Constraint}
 use Rattle.rules.specs.declared.Rule.{Rule}
+use Rattle.rules.specs.Rules.{lessWeight}
 use Rattle.rules.specs.Derivations.{InPlan}
 use Rattle.rules_apply.specs.declared.Applied.{Applied}
 use Rattle.rules_apply.specs.Applying.{given}
 
--- rule 1 along an edge of these fields, where there are p propositions
-abbrev pub alongEdge : ℕ → ℕ → ℕ → ℕ → ℕ → ℕ → Line → Applied
-alongEdge p from to label up down l =
-    given (eqb (l .point) to && plain p (l .label) && plain p (join p label (l .label)) && ltb 0 (l .wait + down - up))
-    (record { point = from; set = l .set; label = join p label (l .label); wait = l .wait + down - up })
+-- rule 1 along an edge that says c, where there are p propositions
+abbrev pub alongEdge : ℕ → Constraint → Line → Applied
+alongEdge p c l =
+    given (eqb (l .point) (c .to) && plain p (l .label) && plain p (join p (c .label) (l .label)) && ltb 0 (lessWeight c (l .wait)))
+    (record { point = c .from; set = l .set; label = join p (c .label) (l .label); wait = lessWeight c (l .wait) })
 
 -- r is that, however many propositions there are, up to four
-abbrev pub Along : ℕ → ℕ → ℕ → ℕ → ℕ → Line → Applied → Type 0
-Along from to label up down l r =
-    (p : ℕ) → p ≤ 4 → label < 4 ^ p → l .label < 4 ^ p → r ≡ alongEdge p from to label up down l
+abbrev pub Along : Constraint → Line → Applied → Type 0
+Along c l r = (p : ℕ) → p ≤ 4 → c .label < 4 ^ p → l .label < 4 ^ p → r ≡ alongEdge p c l
 
 -- a line that the code applies a rule to: its label has p digits, and a duration can be added to its wait in 64 bits
 pub record InLabels (P : Plan) (l : Line) : Type 0 where

@@ -2,19 +2,16 @@
 use crate::Applied;
 use crate::sets::contains;
 use crate::sets::insert;
-use plan::edge_down;
-use plan::edge_from;
-use plan::edge_label;
-use plan::edge_to;
-use plan::edge_up;
 use plan::is_plain;
 use plan::join;
 use plan::link_activation;
 use plan::link_finish;
 use plan::link_least;
 use plan::link_most;
+use rules::Constraint;
 use rules::Edge;
 use rules::Line;
+use rules::constraint_of;
 ghost use mathlib.Core.Path.{_≡_};
 ghost use Prim.Native.Nat.{_<_};
 ghost use Rattle.plan.specs.Moments.{before};
@@ -24,36 +21,28 @@ ghost use Rattle.rules.specs.declared.Rule.the-variants as rule;
 ghost use Rattle.rules_apply.specs.Applying.{applied};
 ghost use Rattle.rules_apply.specs.Applicable.{Along, InByte, Applicable};
 
-// Rule 1 along an edge of these fields.
-fn along(
-    marks: &[u8; 256],
-    from: usize,
-    to: usize,
-    label: usize,
-    up: u64,
-    down: u64,
-    l: Line,
-) -> Applied
-    requires { ⌜ Marks (now marks) × (label < 256) × (l .label < 256) × (l .wait < 4611686018427387904) × (down < 65536) ⌝ }
-    ensures { λ r. ⌜ Along from to label up down l r ⌝ }
+// Rule 1 along an edge that says this.
+fn along(marks: &[u8; 256], edge: Constraint, l: Line) -> Applied
+    requires { ⌜ Marks (now marks) × (edge .label < 256) × (l .label < 256) × (l .wait < 4611686018427387904) × (edge .down < 65536) ⌝ }
+    ensures { λ r. ⌜ Along edge l r ⌝ }
 {
-    if l.point != to {
+    if l.point != edge.to {
         return Applied::Nothing;
     }
     if !is_plain(marks, l.label) {
         return Applied::Nothing;
     }
-    let joined = join(label, l.label);
+    let joined = join(edge.label, l.label);
     if !is_plain(marks, joined) {
         return Applied::Nothing;
     }
-    let sum = l.wait + down;
-    if sum <= up {
+    let sum = l.wait + edge.down;
+    if sum <= edge.up {
         return Applied::Nothing;
     }
-    let wait = sum - up;
+    let wait = sum - edge.up;
     Applied::Gives(Line {
-        point: from,
+        point: edge.from,
         set: l.set,
         label: joined,
         wait,
@@ -64,18 +53,7 @@ pub fn apply_edge(plan: &[u8], marks: &[u8; 256], horizon: u64, e: Edge, l: Line
     requires { ⌜ Applicable (now plan) (now marks) horizon (rule.Propagation e) l l ⌝ }
     ensures { λ r. ⌜ r ≡ applied (planOf (before plan)) (rule.Propagation e) l l ⌝ }
 {
-    match e {
-        Edge::PlanEdge(i) => along(
-            marks,
-            edge_from(plan, i),
-            edge_to(plan, i),
-            edge_label(plan, i),
-            edge_up(plan, i),
-            edge_down(plan, i),
-            l,
-        ),
-        Edge::HorizonEdge(x) => along(marks, 0, x, 0, horizon, 0, l),
-    }
+    along(marks, constraint_of(plan, horizon, e), l)
 }
 
 pub fn apply_lower(plan: &[u8], marks: &[u8; 256], i: usize, finish: Line) -> Applied

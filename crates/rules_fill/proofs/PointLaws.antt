@@ -16,7 +16,7 @@ use Rattle.plan.specs.Plan.{Plan, width, cells}
 use Rattle.plan.proofs.LabelLaws.{four-pos}
 use Rattle.plan.proofs.Ranges.{WellFormed}
 use Rattle.rules.specs.declared.Line.{Line}
-use Rattle.rules.specs.declared.Edge.the-variants.{PlanEdge, HorizonEdge}
+use Rattle.rules.specs.declared.Edge.the-variants.{PlanEdge, HorizonEdge, UpperBound, LowerBound}
 use Rattle.rules.specs.declared.Rule.{Rule}
 use Rattle.rules.specs.declared.Rule.the-variants.{Propagation, LowerCase, UpperCase, LetterRemoval, OwnLiteral, LiteralRemoval}
 use Rattle.rules.specs.Lines.{cellOf}
@@ -27,7 +27,7 @@ use Rattle.rules_fill.specs.Parts.{part}
 use Rattle.rules_fill.specs.Steps.{steps, when}
 use Rattle.rules.specs.Derivations.{Starting, InPlan, Parent, Given}
 use Rattle.rules.proofs.Deriving.{Fires, facts-fire, given-fires, no-set, no-label, no-wait, starts}
-use Rattle.rules.proofs.InRange.{InRange, range}
+use Rattle.rules.proofs.InRange.{InRange, edge-range, range}
 use Rattle.rules.proofs.Monotone.{waiting, fires-mono, result-mono, result-cell}
 use Rattle.rules.proofs.Cells.{digit-lt, digit-div, digit-mod}
 use Rattle.rules.proofs.Next.{Cell, FromTable}
@@ -85,7 +85,7 @@ rowStep P A x r = steps (λ t. steps (λ u. pairStep P A x r t u) (secondCount P
 unfoldable pub fillPoint : Plan → List ℕ → ℕ → List ℕ → List ℕ
 fillPoint P A x B =
     steps (λ j C. rowStep P A x (LiteralRemoval j) (rowStep P A x (OwnLiteral j) C)) (P .propositions)
-    (steps (λ i C. rowStep P A x (LetterRemoval i) (rowStep P A x (UpperCase i) (rowStep P A x (LowerCase i) C))) (P .links)
+    (steps (λ i C. rowStep P A x (LetterRemoval i) (rowStep P A x (Propagation (LowerBound i)) (rowStep P A x (UpperCase i) (rowStep P A x (Propagation (UpperBound i)) (rowStep P A x (LowerCase i) C))))) (P .links)
     (steps (λ y. rowStep P A x (Propagation (HorizonEdge (suc y)))) (P .points - 1)
     (steps (λ i. rowStep P A x (Propagation (PlanEdge i))) (P .edges) B)))
 
@@ -157,8 +157,7 @@ module _ (P : Plan) (wf : WellFormed P) (A : List ℕ) (len : length A ≡ cells
   -- ---- the steps raise what the rules give, and nothing else
   module _ (x : ℕ) (inside : x < P .points) where
     pub first-in : (r : Rule) → InPlan P r → firstPoint P r x < P .points
-    first-in (Propagation (PlanEdge i)) h = wf .to-in i h
-    first-in (Propagation (HorizonEdge y)) h = h .1
+    first-in (Propagation e) h = edge-range P wf e h .to-in
     first-in (LowerCase i) h = wf .finish-in i h .1
     first-in (UpperCase i) h = wf .activation-in i h
     first-in (LetterRemoval i) h = inside
@@ -214,7 +213,13 @@ module _ (P : Plan) (wf : WellFormed P) (A : List ℕ) (len : length A ≡ cells
 
     -- the rows of one link, and of one proposition
     OfLink : ℕ → ℕ → ℕ → Type 0
-    OfLink i c w = (Pair P A x (LowerCase i) c w ⊎ Pair P A x (UpperCase i) c w) ⊎ Pair P A x (LetterRemoval i) c w
+    OfLink i c w = (((Pair P A x (LowerCase i) c w ⊎ Pair P A x (Propagation (UpperBound i)) c w) ⊎ Pair P A x (UpperCase i) c w) ⊎ Pair P A x (Propagation (LowerBound i)) c w) ⊎ Pair P A x (LetterRemoval i) c w
+
+    link-raises : (i : ℕ) → i < P .links → Raises (width P) (OfLink i) (λ C. rowStep P A x (LetterRemoval i) (rowStep P A x (Propagation (LowerBound i)) (rowStep P A x (UpperCase i) (rowStep P A x (Propagation (UpperBound i)) (rowStep P A x (LowerCase i) C)))))
+    unfolding OfLink
+    link-raises i h =
+        raises-then (width P) _ _ _ _ (raises-then (width P) _ _ _ _ (raises-then (width P) _ _ _ _ (raises-then (width P) _ _ _ _
+        (row-raises (LowerCase i) h) (row-raises (Propagation (UpperBound i)) h)) (row-raises (UpperCase i) h)) (row-raises (Propagation (LowerBound i)) h)) (row-raises (LetterRemoval i) h)
 
     OfProp : ℕ → ℕ → ℕ → Type 0
     OfProp j c w = Pair P A x (OwnLiteral j) c w ⊎ Pair P A x (LiteralRemoval j) c w
@@ -227,15 +232,17 @@ module _ (P : Plan) (wf : WellFormed P) (A : List ℕ) (len : length A ≡ cells
         (raises-then (width P) _ _ _ _
         (kind-raises (λ i. Propagation (PlanEdge i)) (P .edges) (λ i h. h))
         (kind-raises (λ y. Propagation (HorizonEdge (suc y))) (P .points - 1) (λ y h. (omega arith, omega arith))))
-        (raises-steps (width P) OfLink _ (P .links) (λ i h. raises-then (width P) _ _ _ _ (raises-then (width P) _ _ _ _ (row-raises (LowerCase i) h) (row-raises (UpperCase i) h)) (row-raises (LetterRemoval i) h))))
+        (raises-steps (width P) OfLink _ (P .links) link-raises))
         (raises-steps (width P) OfProp _ (P .propositions) (λ j h. raises-then (width P) _ _ _ _ (row-raises (OwnLiteral j) h) (row-raises (LiteralRemoval j) h))))
       where
         E : ℕ → ℕ → Type 0
         E c w = ((Some (λ i. Pair P A x (Propagation (PlanEdge i))) (P .edges) c w ⊎ Some (λ y. Pair P A x (Propagation (HorizonEdge (suc y)))) (P .points - 1) c w) ⊎ Some OfLink (P .links) c w) ⊎ Some OfProp (P .propositions) c w
 
         link : (i c w : ℕ) → i < P .links → OfLink i c w → Row P A x c w
-        link i c w h (inl (inl q)) = record { rule = LowerCase i; row = h; pair = q }
-        link i c w h (inl (inr q)) = record { rule = UpperCase i; row = h; pair = q }
+        link i c w h (inl (inl (inl (inl q)))) = record { rule = LowerCase i; row = h; pair = q }
+        link i c w h (inl (inl (inl (inr q)))) = record { rule = Propagation (UpperBound i); row = h; pair = q }
+        link i c w h (inl (inl (inr q))) = record { rule = UpperCase i; row = h; pair = q }
+        link i c w h (inl (inr q)) = record { rule = Propagation (LowerBound i); row = h; pair = q }
         link i c w h (inr q) = record { rule = LetterRemoval i; row = h; pair = q }
 
         prop : (j c w : ℕ) → j < P .propositions → OfProp j c w → Row P A x c w
@@ -252,8 +259,10 @@ module _ (P : Plan) (wf : WellFormed P) (A : List ℕ) (len : length A ≡ cells
         from (Propagation (PlanEdge i)) h c w q = inl (inl (inl (record { index = i; below = h; holds = q })))
         from (Propagation (HorizonEdge zero)) h c w q = absurd (omega (arith, h .0))
         from (Propagation (HorizonEdge (suc y))) h c w q = inl (inl (inr (record { index = y; below = omega (arith, h .1); holds = q })))
-        from (LowerCase i) h c w q = inl (inr (record { index = i; below = h; holds = inl (inl q) }))
-        from (UpperCase i) h c w q = inl (inr (record { index = i; below = h; holds = inl (inr q) }))
+        from (Propagation (UpperBound i)) h c w q = inl (inr (record { index = i; below = h; holds = inl (inl (inl (inr q))) }))
+        from (Propagation (LowerBound i)) h c w q = inl (inr (record { index = i; below = h; holds = inl (inr q) }))
+        from (LowerCase i) h c w q = inl (inr (record { index = i; below = h; holds = inl (inl (inl (inl q))) }))
+        from (UpperCase i) h c w q = inl (inr (record { index = i; below = h; holds = inl (inl (inr q)) }))
         from (LetterRemoval i) h c w q = inl (inr (record { index = i; below = h; holds = inr q }))
         from (OwnLiteral j) h c w q = inr (record { index = j; below = h; holds = inl q })
         from (LiteralRemoval j) h c w q = inr (record { index = j; below = h; holds = inr q })

@@ -17,7 +17,7 @@ use Rattle.plan.proofs.Places.{link-test, digit-test, plain-test, or-label, or-
 use Rattle.rules.specs.declared.Edge.{Edge}
 use Rattle.rules.specs.declared.Rule.{Rule}
 use Rattle.rules.specs.declared.Rule.the-variants.{Propagation, LowerCase, UpperCase, LetterRemoval, OwnLiteral, LiteralRemoval}
-use Rattle.rules.specs.Rules.{edgeFrom, edgeTo, edgeLabel, lessWeight}
+use Rattle.rules.specs.Rules.{constraintOf, lessWeight}
 use Rattle.rules.specs.Tables.{raiseCell}
 use Rattle.rules_fill.specs.Steps.{when}
 use Rattle.rules_fill.specs.Shapes.{linkBit, digitMask, labelMask, touches, cleared, weighed, isLine, isPlain, propagates, propagated, removed, removes}
@@ -103,34 +103,34 @@ module _ (P : Plan) (A : List ℕ) (x : ℕ) where
   -- the table of marks knows four digits
   module _ (few : P .propositions ≤ 4) where
     -- rule 1
-    pub propagation-gives : (e : Edge) → edgeFrom P e ≡ x → edgeLabel P e < 4 ^ P .propositions → (up down : ℕ) → ((w : ℕ) → weighed w up down ≡ lessWeight P e w) → (t : ℕ)
-        → Gives P A x (Propagation e) t 0 (bitOr t (edgeLabel P e)) (propagated (labelMask (P .propositions)) 0 (edgeLabel P e) up down t (waitAt P A (edgeTo P e) t))
-    unfolding propagated
-    propagation-gives e mine low up down weight-is t = rw (propagates-is (P .propositions) 0 (edgeLabel P e) t w false (plain (P .propositions) (join (P .propositions) (edgeLabel P e) (t % 4 ^ P .propositions))) few (touches-none t) (plain-label (P .propositions) t (edgeLabel P e) few low)) (by-test test to back)
+    pub propagation-gives : (e : Edge) → constraintOf P e .from ≡ x → constraintOf P e .label < 4 ^ P .propositions → (t : ℕ)
+        → Gives P A x (Propagation e) t 0 (bitOr t (constraintOf P e .label)) (propagated (labelMask (P .propositions)) 0 (constraintOf P e .label) (constraintOf P e .up) (constraintOf P e .down) t (waitAt P A (constraintOf P e .to) t))
+    unfolding propagated weighed
+    propagation-gives e mine low t = rw (propagates-is (P .propositions) 0 (constraintOf P e .label) t w false (plain (P .propositions) (join (P .propositions) (constraintOf P e .label) (t % 4 ^ P .propositions))) few (touches-none t) (plain-label (P .propositions) t (constraintOf P e .label) few low)) (by-test test to back)
       where
         w : ℕ
-        w = waitAt P A (edgeTo P e) t
+        w = waitAt P A (constraintOf P e .to) t
 
         test : Bool
-        test = (eqb t 0 || ltb 0 w) && not false && plain (P .propositions) (t % 4 ^ P .propositions) && plain (P .propositions) (join (P .propositions) (edgeLabel P e) (t % 4 ^ P .propositions))
+        test = (eqb t 0 || ltb 0 w) && not false && plain (P .propositions) (t % 4 ^ P .propositions) && plain (P .propositions) (join (P .propositions) (constraintOf P e .label) (t % 4 ^ P .propositions))
 
-        to : Is (gives P A x (Propagation e) t 0) → Is test × (place P (givenLine P A x (Propagation e) t 0) ≡ bitOr t (edgeLabel P e)) × (lessWeight P e w ≡ weighed w up down)
+        to : Is (gives P A x (Propagation e) t 0) → Is test × (place P (givenLine P A x (Propagation e) t 0) ≡ bitOr t (constraintOf P e .label)) × (lessWeight (constraintOf P e) w ≡ lessWeight (constraintOf P e) w)
         to h =
             let a : Is (eqb t 0 || ltb 0 w) = search (and-l, and-r) in
             let b : Is (plain (P .propositions) (t % 4 ^ P .propositions)) = search (and-l, and-r) in
-            let c : Is (plain (P .propositions) (join (P .propositions) (edgeLabel P e) (t % 4 ^ P .propositions))) = search (and-l, and-r) in
+            let c : Is (plain (P .propositions) (join (P .propositions) (constraintOf P e .label) (t % 4 ^ P .propositions))) = search (and-l, and-r) in
             let d : Is (not false) = tt in
-            (search and-i, sym (or-label (P .propositions) t (edgeLabel P e) low), sym (weight-is w))
+            (search and-i, sym (or-label (P .propositions) t (constraintOf P e .label) low), refl)
 
-        back : Is test → 0 < weighed w up down → Is (gives P A x (Propagation e) t 0)
+        back : Is test → 0 < lessWeight (constraintOf P e) w → Is (gives P A x (Propagation e) t 0)
         back h k =
-            let a : Is (lineThere P A (edgeTo P e) t) = search (and-l, and-r) in
+            let a : Is (lineThere P A (constraintOf P e .to) t) = search (and-l, and-r) in
             let b : Is (plain (P .propositions) (t % 4 ^ P .propositions)) = search (and-l, and-r) in
-            let c : Is (plain (P .propositions) (join (P .propositions) (edgeLabel P e) (t % 4 ^ P .propositions))) = search (and-l, and-r) in
+            let c : Is (plain (P .propositions) (join (P .propositions) (constraintOf P e .label) (t % 4 ^ P .propositions))) = search (and-l, and-r) in
             let z : Is (lineThere P A 0 0) = tt in
-            let f : Is (eqb (edgeTo P e) (edgeTo P e)) = eqb-refl (edgeTo P e) in
-            let g : Is (eqb (edgeFrom P e) x) = eq→eqb mine in
-            let l : Is (ltb 0 (lessWeight P e w)) = lt→ltb 0 (lessWeight P e w) (rw (weight-is w) at k) in
+            let f : Is (eqb (constraintOf P e .to) (constraintOf P e .to)) = eqb-refl (constraintOf P e .to) in
+            let g : Is (eqb (constraintOf P e .from) x) = eq→eqb mine in
+            let l : Is (ltb 0 (lessWeight (constraintOf P e) w)) = lt→ltb 0 (lessWeight (constraintOf P e) w) k in
             search and-i
 
     -- rule 2

@@ -12,9 +12,10 @@ use borrow.Author.Tests.{eq-eqb, ne-eqb}
 use lib.ListN.{getD}
 use Rattle.plan.specs.Plan.{Plan, width, cells}
 use Rattle.plan.proofs.LabelLaws.{four, four-pos}
+use Rattle.rules.specs.declared.Edge.the-variants.{HorizonEdge}
 use Rattle.rules.specs.Tables.{raiseCell}
 use Rattle.rules_fill.specs.Steps.{when, steps}
-use Rattle.rules_fill.specs.Shapes.{linkBit, touches, cleared, weighed, isLine, isPlain, propagates, propagated, removed, propagateStep, propagateIn, removeStep, removeOne, removeCell, removeFrom, removeIn, clearCell, clearFrom, clearIn, letterIn, literalIn, horizonIn, fillEdges, fillHorizon, fillLower, fillUpper, fillOwnLiteral, fillLink, fillLinks, fillProposition, fillPropositions, filled}
+use Rattle.rules_fill.specs.Shapes.{linkBit, touches, cleared, weighed, isLine, isPlain, propagates, propagated, removed, propagateStep, propagateIn, removeStep, removeOne, removeCell, removeFrom, removeIn, clearCell, clearFrom, clearIn, edgeIn, letterIn, literalIn, fillEdges, fillHorizon, fillActivation, fillFinish, fillOwnLiteral, fillLink, fillLinks, fillProposition, fillPropositions, filled}
 use Rattle.rules.proofs.Raising.{raise-none}
 use Rattle.rules_fill.proofs.StepLaws.{when-true, when-false, steps-idle, steps-more}
 
@@ -181,9 +182,9 @@ all-in-by P w e t u h k = rw e (or-in P t u (rw e at h) (rw e at k))
 pub width-pos : (P : Plan) → 0 < width P
 width-pos P = one-le-mul (pow-pos _) (four-pos _)
 
-pub link-by : (P : Plan) (F : List ℕ) (x i : ℕ) (B C D E : List ℕ) → C ≡ fillLower P F x i B → D ≡ fillUpper P F x i C → E ≡ letterIn P F x i D → E ≡ fillLink P F x i B
+pub link-by : (P : Plan) (F : List ℕ) (x i : ℕ) (B C D E : List ℕ) → C ≡ fillActivation P F x i B → D ≡ fillFinish P F x i C → E ≡ letterIn P F x i D → E ≡ fillLink P F x i B
 unfolding fillLink
-link-by P F x i B C D E a b c = c ∙ ap (letterIn P F x i) (b ∙ ap (fillUpper P F x i) a)
+link-by P F x i B C D E a b c = c ∙ ap (letterIn P F x i) (b ∙ ap (fillFinish P F x i) a)
 
 pub proposition-by : (P : Plan) (F : List ℕ) (x j : ℕ) (B C D : List ℕ) → C ≡ fillOwnLiteral P F x j B → D ≡ literalIn P F x j C → D ≡ fillProposition P F x j B
 unfolding fillProposition
@@ -197,12 +198,12 @@ pub clear-by : (F B D : List ℕ) (w m k k′ x : ℕ) → w ≡ m → k ≡ k�
 clear-by F B D w m k k′ x e1 e2 h = cc
 
 -- the horizon's edges lead to the points from 1 on
-pub horizon-turn : (P : Plan) (F : List ℕ) (y : ℕ) (B C D : List ℕ) → 0 < y → C ≡ steps (λ z. horizonIn P F (suc z)) (y - 1) B → D ≡ horizonIn P F y C → D ≡ steps (λ z. horizonIn P F (suc z)) (y + 1 - 1) B
+pub horizon-turn : (P : Plan) (F : List ℕ) (y : ℕ) (B C D : List ℕ) → 0 < y → C ≡ steps (λ z. edgeIn P F (HorizonEdge (suc z))) (y - 1) B → D ≡ edgeIn P F (HorizonEdge y) C → D ≡ steps (λ z. edgeIn P F (HorizonEdge (suc z))) (y + 1 - 1) B
 unfolding steps
 horizon-turn P F y B C D h e f =
     let a : y ≡ suc (y - 1) = omega arith in
     let b : y + 1 - 1 ≡ suc (y - 1) = omega arith in
-    f ∙ ap₂ (λ (k : ℕ) (L : List ℕ). horizonIn P F k L) a e ∙ rw b
+    f ∙ ap₂ (λ (k : ℕ) (L : List ℕ). edgeIn P F (HorizonEdge k) L) a e ∙ rw b
 
 -- ---- a step at one point alone: the code's number a is the plan's b
 pub when-same : (a b x : ℕ) (f : List ℕ → List ℕ) (B D : List ℕ) → a ≡ b → a ≡ x → D ≡ f B → D ≡ when (eqb b x) f B

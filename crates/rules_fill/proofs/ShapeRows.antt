@@ -2,7 +2,7 @@
 use mathlib.Core.Path.{_≡_, refl, sym, ap, _∙_}
 use mathlib.Core.Bool.{Bool, true, false, cond}
 use mathlib.Core.List.{List}
-use Prim.Native.Nat.{ℕ, suc, _-_, _^_, _≤_, _<_}
+use Prim.Native.Nat.{ℕ, suc, _-_, _≤_, _<_}
 use native.Mathlib.Decide.{ℕ-discrete}
 use native.Mathlib.Omega.{arith}
 use lib.Dec.{T as Is, eqb, eqb→eq}
@@ -11,18 +11,19 @@ use borrow.Author.Tests.{eq-eqb, ne-eqb}
 use lib.Bits.{bitOr}
 use lib.ListN.{length}
 use Rattle.plan.specs.Plan.{Plan, width, cells}
-use Rattle.plan.proofs.LabelLaws.{four-pos}
 use Rattle.plan.proofs.Ranges.{WellFormed}
 use Rattle.rules.specs.declared.Line.{Line}
 use Rattle.rules.specs.declared.Edge.{Edge}
-use Rattle.rules.specs.declared.Edge.the-variants.{PlanEdge, HorizonEdge}
+use Rattle.rules.specs.declared.Edge.the-variants.{PlanEdge, HorizonEdge, UpperBound, LowerBound}
 use Rattle.rules.specs.declared.Rule.{Rule}
 use Rattle.rules.specs.declared.Rule.the-variants.{Propagation, LowerCase, UpperCase, LetterRemoval, OwnLiteral, LiteralRemoval}
-use Rattle.rules.specs.Rules.{edgeFrom, edgeTo, edgeLabel, lessWeight, result}
+use Rattle.rules.specs.Rules.{constraintOf, result}
 use Rattle.rules.specs.Tables.{raiseCell, next}
 use Rattle.rules_fill.specs.Parts.{part}
 use Rattle.rules_fill.specs.Steps.{when, steps}
-use Rattle.rules_fill.specs.Shapes.{linkBit, digitMask, labelMask, touches, cleared, weighed, removes, propagateStep, propagateIn, removeStep, removeOne, removeCell, removeFrom, removeIn, clearCell, clearFrom, clearIn, edgeIn, horizonIn, lowerIn, upperIn, letterIn, ownLiteralIn, literalIn, fillEdge, fillEdges, fillHorizon, fillLower, fillUpper, fillOwnLiteral, fillLink, fillLinks, fillProposition, fillPropositions, filled}
+use Rattle.rules_fill.specs.Shapes.{linkBit, digitMask, touches, cleared, removes, propagateStep, propagateIn, removeStep, removeOne, removeCell, removeFrom, removeIn, clearCell, clearFrom, clearIn, edgeIn, lowerIn, upperIn, letterIn, ownLiteralIn, literalIn, fillEdge, fillEdges, fillHorizon, fillActivation, fillFinish, fillOwnLiteral, fillLink, fillLinks, fillProposition, fillPropositions, filled}
+use Rattle.rules.specs.Derivations.{InPlan}
+use Rattle.rules.proofs.InRange.{edge-range}
 use Rattle.rules.proofs.Raising.{raise-none}
 use Rattle.rules_fill.proofs.StepLaws.{when-true, when-false, steps-alike, steps-idle}
 use Rattle.rules_fill.proofs.PointLaws.{waitAt, secondCount, gives, pairStep, rowStep, fillPoint, row-idle, fill-point}
@@ -54,18 +55,9 @@ module _ (P : Plan) (wf : WellFormed P) (few : P .propositions ≤ 4) (A : List 
   unfolding rowStep
   one-row r f h B = steps-alike _ _ (width P) (λ t k C. h t C) B
 
-  propagation-row : (e : Edge) → edgeFrom P e ≡ x → edgeLabel P e < 4 ^ P .propositions → (up down : ℕ) → ((w : ℕ) → weighed w up down ≡ lessWeight P e w)
-      → (B : List ℕ) → rowStep P A x (Propagation e) B ≡ propagateIn (width P) A (labelMask (P .propositions)) (edgeTo P e) 0 (edgeLabel P e) up down B
-  unfolding propagateIn propagateStep steps
-  propagation-row e mine low up down weight-is B = one-row (Propagation e) _ (λ t C. gives-step P A x (propagation-gives P A x few e mine low up down weight-is t) C) B
-
-  edge-row : (i : ℕ) → i < P .edges → P .from i ≡ x → (B : List ℕ) → rowStep P A x (Propagation (PlanEdge i)) B ≡ edgeIn P A i B
-  unfolding edgeIn weighed
-  edge-row i h mine B = propagation-row (PlanEdge i) mine (wf .label-in i h) (P .up i) (P .down i) (λ w. refl) B
-
-  horizon-row : (y : ℕ) → 0 ≡ x → (B : List ℕ) → rowStep P A x (Propagation (HorizonEdge y)) B ≡ horizonIn P A y B
-  unfolding horizonIn weighed
-  horizon-row y mine B = propagation-row (HorizonEdge y) mine (four-pos _) (P .horizon) 0 (λ w. omega arith) B
+  edge-row : (e : Edge) → InPlan P (Propagation e) → constraintOf P e .from ≡ x → (B : List ℕ) → rowStep P A x (Propagation e) B ≡ edgeIn P A e B
+  unfolding edgeIn propagateIn propagateStep steps
+  edge-row e h mine B = one-row (Propagation e) _ (λ t C. gives-step P A x (propagation-gives P A x few e mine (edge-range P wf e h .label-in) t) C) B
 
   lower-row : (i : ℕ) → P .activation i ≡ x → (B : List ℕ) → rowStep P A x (LowerCase i) B ≡ lowerIn P A i B
   unfolding lowerIn propagateIn propagateStep steps
@@ -110,18 +102,30 @@ module _ (P : Plan) (wf : WellFormed P) (few : P .propositions ≤ 4) (A : List 
 
   edge-alike : (i : ℕ) → i < P .edges → (B : List ℕ) → rowStep P A x (Propagation (PlanEdge i)) B ≡ fillEdge P A x i B
   unfolding fillEdge
-  edge-alike i h B = when-row (P .from i) x _ _ (edge-row i h) (λ n. idle (Propagation (PlanEdge i)) (λ l m. n)) B
+  edge-alike i h B = when-row (P .from i) x _ _ (edge-row (PlanEdge i) h) (λ n. idle (Propagation (PlanEdge i)) (λ l m. n)) B
 
   horizon-alike : (B : List ℕ) → steps (λ y. rowStep P A x (Propagation (HorizonEdge (suc y)))) (P .points - 1) B ≡ when (eqb x 0) (fillHorizon P A) B
   unfolding fillHorizon
-  horizon-alike B = when-row x 0 _ _ (λ e C. steps-alike _ _ (P .points - 1) (λ y h D. horizon-row (suc y) (sym e) D) C) (λ n C. steps-idle _ (P .points - 1) (λ y h D. idle (Propagation (HorizonEdge (suc y))) (λ l m e. n (sym e)) D) C) B
+  horizon-alike B = when-row x 0 _ _ (λ e C. steps-alike _ _ (P .points - 1) (λ y h D. edge-row (HorizonEdge (suc y)) (omega arith, omega arith) (sym e) D) C) (λ n C. steps-idle _ (P .points - 1) (λ y h D. idle (Propagation (HorizonEdge (suc y))) (λ l m e. n (sym e)) D) C) B
 
-  link-alike : (i : ℕ) → i < P .links → (B : List ℕ) → rowStep P A x (LetterRemoval i) (rowStep P A x (UpperCase i) (rowStep P A x (LowerCase i) B)) ≡ fillLink P A x i B
-  unfolding fillLink fillUpper fillLower
-  link-alike i h B =
-      letter-row i _ ∙ ap (letterIn P A x i)
-      (when-row (P .finish i) x (rowStep P A x (UpperCase i)) (upperIn P A i) (upper-row i) (λ n. idle (UpperCase i) (λ l m. n)) _
-      ∙ ap (fillUpper P A x i) (when-row (P .activation i) x (rowStep P A x (LowerCase i)) (lowerIn P A i) (lower-row i) (λ n. idle (LowerCase i) (λ l m. n)) B))
+  -- rules 2 and 3 of a link, each with the edge that starts where it gives lines
+  activation-alike : (i : ℕ) → i < P .links → (B : List ℕ) → rowStep P A x (Propagation (UpperBound i)) (rowStep P A x (LowerCase i) B) ≡ fillActivation P A x i B
+  unfolding fillActivation
+  activation-alike i h B =
+      when-row (P .activation i) x (λ C. rowStep P A x (Propagation (UpperBound i)) (rowStep P A x (LowerCase i) C)) (λ C. edgeIn P A (UpperBound i) (lowerIn P A i C))
+      (λ e C. edge-row (UpperBound i) h e _ ∙ ap (edgeIn P A (UpperBound i)) (lower-row i e C))
+      (λ n C. idle (Propagation (UpperBound i)) (λ l m. n) _ ∙ idle (LowerCase i) (λ l m. n) C) B
+
+  finish-alike : (i : ℕ) → i < P .links → (B : List ℕ) → rowStep P A x (Propagation (LowerBound i)) (rowStep P A x (UpperCase i) B) ≡ fillFinish P A x i B
+  unfolding fillFinish
+  finish-alike i h B =
+      when-row (P .finish i) x (λ C. rowStep P A x (Propagation (LowerBound i)) (rowStep P A x (UpperCase i) C)) (λ C. edgeIn P A (LowerBound i) (upperIn P A i C))
+      (λ e C. edge-row (LowerBound i) h e _ ∙ ap (edgeIn P A (LowerBound i)) (upper-row i e C))
+      (λ n C. idle (Propagation (LowerBound i)) (λ l m. n) _ ∙ idle (UpperCase i) (λ l m. n) C) B
+
+  link-alike : (i : ℕ) → i < P .links → (B : List ℕ) → rowStep P A x (LetterRemoval i) (rowStep P A x (Propagation (LowerBound i)) (rowStep P A x (UpperCase i) (rowStep P A x (Propagation (UpperBound i)) (rowStep P A x (LowerCase i) B)))) ≡ fillLink P A x i B
+  unfolding fillLink
+  link-alike i h B = letter-row i _ ∙ ap (letterIn P A x i) (finish-alike i h _ ∙ ap (fillFinish P A x i) (activation-alike i h B))
 
   proposition-alike : (j : ℕ) → j < P .propositions → (B : List ℕ) → rowStep P A x (LiteralRemoval j) (rowStep P A x (OwnLiteral j) B) ≡ fillProposition P A x j B
   unfolding fillProposition fillOwnLiteral

@@ -12,10 +12,16 @@ use lib.ListN.{length, getD, take, drop, length-set, length-take, length-drop, L
 use lib.Seq.{set-append-left, getD-take, ext-getD}
 use Rattle.plan.specs.Plan.{Plan, width, cells}
 use Rattle.plan.proofs.Ranges.{WellFormed}
+use Rattle.rules.specs.declared.Edge.{Edge}
+use Rattle.rules.specs.declared.Edge.the-variants.{PlanEdge, HorizonEdge, UpperBound, LowerBound}
+use Rattle.rules.specs.declared.Rule.the-variants.{Propagation}
+use Rattle.rules.specs.Rules.{constraintOf}
 use Rattle.rules.specs.Tables.{raiseCell, next}
+use Rattle.rules.specs.Derivations.{InPlan}
+use Rattle.rules.proofs.InRange.{edge-range}
 use Rattle.rules_fill.specs.Parts.{part}
 use Rattle.rules_fill.specs.Steps.{when, steps}
-use Rattle.rules_fill.specs.Shapes.{linkBit, touches, cleared, propagated, removed, propagateStep, propagateIn, removeStep, removeOne, removeCell, removeFrom, removeIn, clearCell, clearFrom, clearIn, edgeIn, horizonIn, lowerIn, upperIn, letterIn, ownLiteralIn, literalIn, fillLower, fillUpper, fillOwnLiteral, fillEdge, fillEdges, fillHorizon, fillLink, fillLinks, fillProposition, fillPropositions, filled}
+use Rattle.rules_fill.specs.Shapes.{linkBit, touches, cleared, propagated, removed, propagateStep, propagateIn, removeStep, removeOne, removeCell, removeFrom, removeIn, clearCell, clearFrom, clearIn, edgeIn, lowerIn, upperIn, letterIn, ownLiteralIn, literalIn, fillActivation, fillFinish, fillOwnLiteral, fillEdge, fillEdges, fillHorizon, fillLink, fillLinks, fillProposition, fillPropositions, filled}
 use Rattle.rules_fill.proofs.StepLaws.{steps-alike}
 use Rattle.rules_fill.proofs.PartLaws.{part-at}
 use Rattle.rules_fill.proofs.ShapeLaws.{or-in, label-in, link-in, cleared-le, filled-by}
@@ -56,13 +62,20 @@ unfolding clearIn clearFrom clearCell
 clear-keeps m A mask x = keeps-steps m _ m (λ t k. keeps-when m (touches mask t) _ (keeps-raise m _ _ (lt-of-le-of-lt (cleared-le t mask) k)))
 
 module _ (P : Plan) (wf : WellFormed P) (A : List ℕ) (x : ℕ) where
+  edge-keeps : (e : Edge) → InPlan P (Propagation e) → Keeps (width P) (edgeIn P A e)
+  unfolding edgeIn
+  edge-keeps e h = propagate-keeps (width P) A _ _ _ _ _ _ (λ t k. or-in P t (constraintOf P e .label) k (label-in P (constraintOf P e .label) (edge-range P wf e h .label-in)))
+
   filled-keeps : Keeps (width P) (filled P A x)
-  unfolding filled fillPropositions fillProposition fillLinks fillLink fillHorizon fillEdges fillEdge edgeIn horizonIn lowerIn upperIn letterIn ownLiteralIn literalIn fillLower fillUpper fillOwnLiteral
+  unfolding filled fillPropositions fillProposition fillLinks fillLink fillHorizon fillEdges fillEdge lowerIn upperIn letterIn ownLiteralIn literalIn fillActivation fillFinish fillOwnLiteral
   filled-keeps =
       keeps-then m _ _ (keeps-then m _ _ (keeps-then m _ _
-      (keeps-steps m _ (P .edges) (λ i h. keeps-when m (eqb (P .from i) x) _ (propagate-keeps m A _ _ _ _ _ _ (λ t k. or-in P t (P .label i) k (label-in P (P .label i) (wf .label-in i h))))))
-      (keeps-when m (eqb x 0) _ (keeps-steps m _ (P .points - 1) (λ y h. propagate-keeps m A _ _ _ _ _ _ none))))
-      (keeps-steps m _ (P .links) (λ i h. keeps-then m _ _ (keeps-then m _ _ (keeps-when m (eqb (P .activation i) x) _ (propagate-keeps m A _ _ _ _ _ _ none)) (keeps-when m (eqb (P .finish i) x) _ (propagate-keeps m A _ _ _ _ _ _ (λ t k. or-in P t (linkBit (P .propositions) i) k (link-in P i h))))) (remove-keeps m A _ _ _ _ (or-in P)))))
+      (keeps-steps m _ (P .edges) (λ i h. keeps-when m (eqb (P .from i) x) _ (edge-keeps (PlanEdge i) h)))
+      (keeps-when m (eqb x 0) _ (keeps-steps m _ (P .points - 1) (λ y h. edge-keeps (HorizonEdge (suc y)) (omega arith, omega arith)))))
+      (keeps-steps m _ (P .links) (λ i h. keeps-then m _ _ (keeps-then m _ _
+      (keeps-when m (eqb (P .activation i) x) _ (keeps-then m _ _ (propagate-keeps m A _ _ _ _ _ _ none) (edge-keeps (UpperBound i) h)))
+      (keeps-when m (eqb (P .finish i) x) _ (keeps-then m _ _ (propagate-keeps m A _ _ _ _ _ _ (λ t k. or-in P t (linkBit (P .propositions) i) k (link-in P i h))) (edge-keeps (LowerBound i) h))))
+      (remove-keeps m A _ _ _ _ (or-in P)))))
       (keeps-steps m _ (P .propositions) (λ j h. keeps-then m _ _ (keeps-when m (eqb (P .observer j) x) _ (clear-keeps m A _ _)) (remove-keeps m A _ _ _ _ (or-in P))))
     where
       m : ℕ
@@ -100,14 +113,19 @@ module _ (P : Plan) (wf : WellFormed P) (F G : List ℕ) (same : Same (cells P) 
   unfolding clearIn clearFrom
   clear-same mask x h B = steps-alike _ _ (width P) (λ t k C. ap (λ (w : ℕ). clearCell mask t w C) (at x t h k)) B
 
+  edge-same : (e : Edge) → InPlan P (Propagation e) → (B : List ℕ) → edgeIn P F e B ≡ edgeIn P G e B
+  unfolding edgeIn
+  edge-same e h B = propagate-same _ _ _ _ _ _ (edge-range P wf e h .to-in) B
+
   pub filled-same : (x : ℕ) → x < P .points → (B : List ℕ) → filled P F x B ≡ filled P G x B
-  unfolding filled fillPropositions fillProposition fillLinks fillLink fillHorizon fillEdges fillEdge edgeIn horizonIn lowerIn upperIn letterIn ownLiteralIn literalIn fillLower fillUpper fillOwnLiteral
+  unfolding filled fillPropositions fillProposition fillLinks fillLink fillHorizon fillEdges fillEdge lowerIn upperIn letterIn ownLiteralIn literalIn fillActivation fillFinish fillOwnLiteral
   filled-same x h B =
       steps-alike _ _ (P .propositions) (λ j k C. remove-same _ _ _ _ (wf .observer-in j k .1) h _ ∙ ap (literalIn P G x j) (when-alike (eqb (P .observer j) x) _ _ (clear-same _ x h) C)) _
       ∙ ap (fillPropositions P G x) (steps-alike _ _ (P .links) (λ i k C. remove-same _ _ _ _ (wf .activation-in i k) h _ ∙ ap (letterIn P G x i)
-      (when-alike (eqb (P .finish i) x) _ _ (propagate-same _ _ _ _ _ _ (wf .activation-in i k)) _ ∙ ap (fillUpper P G x i) (when-alike (eqb (P .activation i) x) _ _ (propagate-same _ _ _ _ _ _ (wf .finish-in i k .1)) C))) _
-      ∙ ap (fillLinks P G x) (when-alike (eqb x 0) _ _ (λ C. steps-alike _ _ (P .points - 1) (λ y k D. propagate-same _ _ _ _ _ _ (omega arith) D) C) _
-      ∙ ap (when (eqb x 0) (fillHorizon P G)) (steps-alike _ _ (P .edges) (λ i k C. when-alike (eqb (P .from i) x) _ _ (propagate-same _ _ _ _ _ _ (wf .to-in i k)) C) B)))
+      (when-alike (eqb (P .finish i) x) _ _ (λ D. edge-same (LowerBound i) k _ ∙ ap (edgeIn P G (LowerBound i)) (propagate-same _ _ _ _ _ _ (wf .activation-in i k) D)) _ ∙ ap (fillFinish P G x i)
+      (when-alike (eqb (P .activation i) x) _ _ (λ D. edge-same (UpperBound i) k _ ∙ ap (edgeIn P G (UpperBound i)) (propagate-same _ _ _ _ _ _ (wf .finish-in i k .1) D)) C))) _
+      ∙ ap (fillLinks P G x) (when-alike (eqb x 0) _ _ (λ C. steps-alike _ _ (P .points - 1) (λ y k D. edge-same (HorizonEdge (suc y)) (omega arith, omega arith) D) C) _
+      ∙ ap (when (eqb x 0) (fillHorizon P G)) (steps-alike _ _ (P .edges) (λ i k C. when-alike (eqb (P .from i) x) _ _ (edge-same (PlanEdge i) k) C) B)))
 
 -- ---- the whole: what the code's fill makes of the part that it is lent
 pub fill-whole : (P : Plan) → WellFormed P → P .propositions ≤ 4 → (F D : List ℕ) → cells P ≤ length F → (x : ℕ) → x < P .points

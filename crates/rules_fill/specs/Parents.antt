@@ -3,11 +3,11 @@ use Prim.Native.Nat.{ℕ}
 use Rattle.plan.specs.Plan.{Plan}
 use Rattle.rules.specs.declared.Rule.{Rule}
 use Rattle.rules.specs.declared.Rule.the-variants.{Propagation, LowerCase, UpperCase, LetterRemoval, OwnLiteral, LiteralRemoval}
-use Rattle.rules.specs.Rules.{edgeFrom, edgeTo}
+use Rattle.rules.specs.Rules.{constraintOf}
 
 -- the point of the line that a rule gives, where its first parent is a line of point x
 abbrev pub givenPoint : Plan → Rule → ℕ → ℕ
-givenPoint P (Propagation e) x = edgeFrom P e
+givenPoint P (Propagation e) x = constraintOf P e .from
 givenPoint P (LowerCase i) x = P .activation i
 givenPoint P (UpperCase i) x = P .finish i
 givenPoint P (LetterRemoval i) x = x
@@ -16,7 +16,7 @@ givenPoint P (LiteralRemoval j) x = x
 
 -- the point of its first parent, where it gives a line of point x
 abbrev pub firstPoint : Plan → Rule → ℕ → ℕ
-firstPoint P (Propagation e) x = edgeTo P e
+firstPoint P (Propagation e) x = constraintOf P e .to
 firstPoint P (LowerCase i) x = P .finish i
 firstPoint P (UpperCase i) x = P .activation i
 firstPoint P (LetterRemoval i) x = x

@@ -2,17 +2,19 @@
 use mathlib.Core.Path.{_≡_}
 use Prim.Native.Nat.{ℕ, _^_, _<_}
 use Rattle.plan.specs.Plan.{Plan}
+use Rattle.rules.specs.declared.Edge.{Edge}
+use Rattle.rules.specs.Rules.{constraintOf}
 use Rattle.rules_fill.specs.declared.shapes.Propagator.{Propagator}
 use Rattle.rules_fill.specs.declared.shapes.Remover.{Remover}
 use Rattle.rules_fill.specs.Shapes.{linkBit, digitMask}
 
--- rule 1 of edge i
-pub record EdgeRow (P : Plan) (i : ℕ) (r : Propagator) : Type 0 where
-  pub from-is : r .from ≡ P .to i
+-- rule 1 of an edge
+pub record EdgeRow (P : Plan) (e : Edge) (r : Propagator) : Type 0 where
+  pub from-is : r .from ≡ constraintOf P e .to
   pub avoid-is : r .avoid ≡ 0
-  pub add-is : r .add ≡ P .label i
-  pub up-is : r .up ≡ P .up i
-  pub down-is : r .down ≡ P .down i
+  pub add-is : r .add ≡ constraintOf P e .label
+  pub up-is : r .up ≡ constraintOf P e .up
+  pub down-is : r .down ≡ constraintOf P e .down
   pub down-small : r .down < 65536
 
 -- rule 2 of link i

@@ -9,6 +9,9 @@ use lib.Bits.{bitOr, bitAnd}
 use lib.ListN.{getD}
 use Rattle.plan.specs.Label.{plain}
 use Rattle.plan.specs.Plan.{Plan, width}
+use Rattle.rules.specs.declared.Edge.{Edge}
+use Rattle.rules.specs.declared.Edge.the-variants.{PlanEdge, HorizonEdge, UpperBound, LowerBound}
+use Rattle.rules.specs.Rules.{constraintOf}
 use Rattle.rules.specs.Tables.{raiseCell}
 use Rattle.rules_fill.specs.Steps.{steps, when}
 
@@ -101,11 +104,8 @@ clearIn m A mask x = steps (clearFrom m A mask x) m
 
 -- ---- the rows
 module _ (P : Plan) (A : List ℕ) where
-  unfoldable pub edgeIn : ℕ → List ℕ → List ℕ
-  edgeIn i = propagateIn (width P) A (labelMask (P .propositions)) (P .to i) 0 (P .label i) (P .up i) (P .down i)
-
-  unfoldable pub horizonIn : ℕ → List ℕ → List ℕ
-  horizonIn y = propagateIn (width P) A (labelMask (P .propositions)) y 0 0 (P .horizon) 0
+  unfoldable pub edgeIn : Edge → List ℕ → List ℕ
+  edgeIn e = propagateIn (width P) A (labelMask (P .propositions)) (constraintOf P e .to) 0 (constraintOf P e .label) (constraintOf P e .up) (constraintOf P e .down)
 
   unfoldable pub lowerIn : ℕ → List ℕ → List ℕ
   lowerIn i = propagateIn (width P) A (labelMask (P .propositions)) (P .finish i) (linkBit (P .propositions) i) 0 (P .least i) 0
@@ -124,22 +124,22 @@ module _ (P : Plan) (A : List ℕ) where
 
   -- rules 1 to 6 of point x, in the code's order
   unfoldable pub fillEdge : ℕ → ℕ → List ℕ → List ℕ
-  fillEdge x i = when (eqb (P .from i) x) (edgeIn i)
+  fillEdge x i = when (eqb (P .from i) x) (edgeIn (PlanEdge i))
 
   unfoldable pub fillEdges : ℕ → List ℕ → List ℕ
   fillEdges x = steps (fillEdge x) (P .edges)
 
   unfoldable pub fillHorizon : List ℕ → List ℕ
-  fillHorizon = steps (λ y. horizonIn (suc y)) (P .points - 1)
+  fillHorizon = steps (λ y. edgeIn (HorizonEdge (suc y))) (P .points - 1)
 
-  unfoldable pub fillLower : ℕ → ℕ → List ℕ → List ℕ
-  fillLower x i = when (eqb (P .activation i) x) (lowerIn i)
+  unfoldable pub fillActivation : ℕ → ℕ → List ℕ → List ℕ
+  fillActivation x i = when (eqb (P .activation i) x) (λ B. edgeIn (UpperBound i) (lowerIn i B))
 
-  unfoldable pub fillUpper : ℕ → ℕ → List ℕ → List ℕ
-  fillUpper x i = when (eqb (P .finish i) x) (upperIn i)
+  unfoldable pub fillFinish : ℕ → ℕ → List ℕ → List ℕ
+  fillFinish x i = when (eqb (P .finish i) x) (λ B. edgeIn (LowerBound i) (upperIn i B))
 
   unfoldable pub fillLink : ℕ → ℕ → List ℕ → List ℕ
-  fillLink x i B = letterIn x i (fillUpper x i (fillLower x i B))
+  fillLink x i B = letterIn x i (fillFinish x i (fillActivation x i B))
 
   unfoldable pub fillLinks : ℕ → List ℕ → List ℕ
   fillLinks x = steps (fillLink x) (P .links)

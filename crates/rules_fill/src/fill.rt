@@ -10,7 +10,6 @@ use crate::rows::letter_row;
 use crate::rows::literal_row;
 use crate::rows::lower_row;
 use crate::rows::upper_row;
-use crate::shapes::Propagator;
 use plan::edge_from;
 use plan::edges;
 use plan::link_activation;
@@ -20,60 +19,22 @@ use plan::observer;
 use plan::points;
 use plan::propositions;
 use plan::width as point_width;
+use rules::Edge;
 ghost use mathlib.Core.Path.{_≡_};
 ghost use Prim.Native.Nat.{_<_};
 ghost use lib.Dec.{eqb};
 ghost use Rattle.plan.specs.Moments.{before, after, SameLength};
 ghost use Rattle.plan.specs.Layout.{planOf};
+ghost use Rattle.rules.specs.Derivations.{InPlan};
+ghost use Rattle.rules.specs.declared.Rule.the-variants as rule;
 ghost use Rattle.rules_fill.specs.Steps as steps;
 ghost use Rattle.rules_fill.specs.Shapes as shapes;
 ghost use Rattle.rules_fill.specs.Parts.{nextPart};
 ghost use Rattle.rules_fill.specs.Lent.{FillLent};
 ghost use Rattle.rules_fill.specs.Filling.{RowsLent, RemovalLent};
 
-// Rule 1 of edge i, if it starts at x.
+// Rule 1 of an edge that starts at the part's point.
 fn edge_in(
-    plan: &[u8],
-    marks: &[u8; 256],
-    first: &[u32],
-    part: &mut [u32],
-    width: usize,
-    mask: usize,
-    x: usize,
-    i: usize,
-)
-    requires { ⌜ RowsLent (now plan) (now marks) (now first) (now part) width mask × (i < planOf (now plan) .edges) ⌝ }
-    ensures { λ _. ⌜ after part ≡ shapes.fillEdge (planOf (before plan)) (before first) x i (before part) ⌝ }
-    ensures { λ _. ⌜ SameLength part ⌝ }
-{
-    if edge_from(plan, i) != x {
-        return;
-    }
-    let by = edge_row(plan, i);
-    propagate_in(marks, first, part, width, mask, by);
-}
-
-fn fill_edges(
-    plan: &[u8],
-    marks: &[u8; 256],
-    first: &[u32],
-    part: &mut [u32],
-    width: usize,
-    mask: usize,
-    x: usize,
-)
-    requires { ⌜ RowsLent (now plan) (now marks) (now first) (now part) width mask ⌝ }
-    ensures { λ _. ⌜ after part ≡ shapes.fillEdges (planOf (before plan)) (before first) x (before part) ⌝ }
-    ensures { λ _. ⌜ SameLength part ⌝ }
-{
-    let n = edges(plan);
-    for i in 0..n {
-        edge_in(plan, marks, first, part, width, mask, x, i);
-    }
-}
-
-// Rule 1 of the horizon edge to y.
-fn horizon_in(
     plan: &[u8],
     marks: &[u8; 256],
     horizon: u64,
@@ -81,21 +42,59 @@ fn horizon_in(
     part: &mut [u32],
     width: usize,
     mask: usize,
-    y: usize,
+    e: Edge,
 )
-    requires { ⌜ RowsLent (now plan) (now marks) (now first) (now part) width mask × (y < planOf (now plan) .points) ⌝ }
-    requires { ⌜ horizon ≡ planOf (now plan) .horizon ⌝ }
-    ensures { λ _. ⌜ after part ≡ shapes.horizonIn (planOf (before plan)) (before first) y (before part) ⌝ }
+    requires { ⌜ RowsLent (now plan) (now marks) (now first) (now part) width mask × (horizon ≡ planOf (now plan) .horizon) ⌝ }
+    requires { ⌜ InPlan (planOf (now plan)) (rule.Propagation e) ⌝ }
+    ensures { λ _. ⌜ after part ≡ shapes.edgeIn (planOf (before plan)) (before first) e (before part) ⌝ }
     ensures { λ _. ⌜ SameLength part ⌝ }
 {
-    let by = Propagator {
-        from: y,
-        avoid: 0,
-        add: 0,
-        up: horizon,
-        down: 0,
-    };
+    let by = edge_row(plan, horizon, e);
     propagate_in(marks, first, part, width, mask, by);
+}
+
+// Rule 1 of plan edge i, if it starts at x.
+fn plan_edge_in(
+    plan: &[u8],
+    marks: &[u8; 256],
+    horizon: u64,
+    first: &[u32],
+    part: &mut [u32],
+    width: usize,
+    mask: usize,
+    x: usize,
+    i: usize,
+)
+    requires { ⌜ RowsLent (now plan) (now marks) (now first) (now part) width mask × (horizon ≡ planOf (now plan) .horizon) ⌝ }
+    requires { ⌜ i < planOf (now plan) .edges ⌝ }
+    ensures { λ _. ⌜ after part ≡ shapes.fillEdge (planOf (before plan)) (before first) x i (before part) ⌝ }
+    ensures { λ _. ⌜ SameLength part ⌝ }
+{
+    if edge_from(plan, i) != x {
+        return;
+    }
+    let e = Edge::PlanEdge(i);
+    edge_in(plan, marks, horizon, first, part, width, mask, e);
+}
+
+fn fill_edges(
+    plan: &[u8],
+    marks: &[u8; 256],
+    horizon: u64,
+    first: &[u32],
+    part: &mut [u32],
+    width: usize,
+    mask: usize,
+    x: usize,
+)
+    requires { ⌜ RowsLent (now plan) (now marks) (now first) (now part) width mask × (horizon ≡ planOf (now plan) .horizon) ⌝ }
+    ensures { λ _. ⌜ after part ≡ shapes.fillEdges (planOf (before plan)) (before first) x (before part) ⌝ }
+    ensures { λ _. ⌜ SameLength part ⌝ }
+{
+    let n = edges(plan);
+    for i in 0..n {
+        plan_edge_in(plan, marks, horizon, first, part, width, mask, x, i);
+    }
 }
 
 // Rule 1 of every horizon edge: they start at point 0.
@@ -114,7 +113,8 @@ fn fill_horizon(
 {
     let n = points(plan);
     for y in 1..n {
-        horizon_in(plan, marks, horizon, first, part, width, mask, y);
+        let e = Edge::HorizonEdge(y);
+        edge_in(plan, marks, horizon, first, part, width, mask, e);
     }
 }
 
@@ -138,7 +138,7 @@ fn horizon_at(
     fill_horizon(plan, marks, horizon, first, part, width, mask);
 }
 
-// Rule 2 of link i, if its activation is x.
+// Rule 2 of link i, whose activation is the part's point.
 fn lower_in(
     plan: &[u8],
     marks: &[u8; 256],
@@ -146,21 +146,17 @@ fn lower_in(
     part: &mut [u32],
     width: usize,
     mask: usize,
-    x: usize,
     i: usize,
 )
     requires { ⌜ RowsLent (now plan) (now marks) (now first) (now part) width mask × (i < planOf (now plan) .links) ⌝ }
-    ensures { λ _. ⌜ after part ≡ shapes.fillLower (planOf (before plan)) (before first) x i (before part) ⌝ }
+    ensures { λ _. ⌜ after part ≡ shapes.lowerIn (planOf (before plan)) (before first) i (before part) ⌝ }
     ensures { λ _. ⌜ SameLength part ⌝ }
 {
-    if link_activation(plan, i) != x {
-        return;
-    }
     let by = lower_row(plan, i);
     propagate_in(marks, first, part, width, mask, by);
 }
 
-// Rule 3 of link i, if its end is x.
+// Rule 3 of link i, whose end is the part's point.
 fn upper_in(
     plan: &[u8],
     marks: &[u8; 256],
@@ -168,18 +164,64 @@ fn upper_in(
     part: &mut [u32],
     width: usize,
     mask: usize,
-    x: usize,
     i: usize,
 )
     requires { ⌜ RowsLent (now plan) (now marks) (now first) (now part) width mask × (i < planOf (now plan) .links) ⌝ }
-    ensures { λ _. ⌜ after part ≡ shapes.fillUpper (planOf (before plan)) (before first) x i (before part) ⌝ }
+    ensures { λ _. ⌜ after part ≡ shapes.upperIn (planOf (before plan)) (before first) i (before part) ⌝ }
+    ensures { λ _. ⌜ SameLength part ⌝ }
+{
+    let by = upper_row(plan, i);
+    propagate_in(marks, first, part, width, mask, by);
+}
+
+// Rule 2 of link i and rule 1 of its upper bound, if its activation is x.
+fn activation_in(
+    plan: &[u8],
+    marks: &[u8; 256],
+    horizon: u64,
+    first: &[u32],
+    part: &mut [u32],
+    width: usize,
+    mask: usize,
+    x: usize,
+    i: usize,
+)
+    requires { ⌜ RowsLent (now plan) (now marks) (now first) (now part) width mask × (horizon ≡ planOf (now plan) .horizon) ⌝ }
+    requires { ⌜ i < planOf (now plan) .links ⌝ }
+    ensures { λ _. ⌜ after part ≡ shapes.fillActivation (planOf (before plan)) (before first) x i (before part) ⌝ }
+    ensures { λ _. ⌜ SameLength part ⌝ }
+{
+    if link_activation(plan, i) != x {
+        return;
+    }
+    lower_in(plan, marks, first, part, width, mask, i);
+    let upper_bound = Edge::UpperBound(i);
+    edge_in(plan, marks, horizon, first, part, width, mask, upper_bound);
+}
+
+// Rule 3 of link i and rule 1 of its lower bound, if its end is x.
+fn finish_in(
+    plan: &[u8],
+    marks: &[u8; 256],
+    horizon: u64,
+    first: &[u32],
+    part: &mut [u32],
+    width: usize,
+    mask: usize,
+    x: usize,
+    i: usize,
+)
+    requires { ⌜ RowsLent (now plan) (now marks) (now first) (now part) width mask × (horizon ≡ planOf (now plan) .horizon) ⌝ }
+    requires { ⌜ i < planOf (now plan) .links ⌝ }
+    ensures { λ _. ⌜ after part ≡ shapes.fillFinish (planOf (before plan)) (before first) x i (before part) ⌝ }
     ensures { λ _. ⌜ SameLength part ⌝ }
 {
     if link_finish(plan, i) != x {
         return;
     }
-    let by = upper_row(plan, i);
-    propagate_in(marks, first, part, width, mask, by);
+    upper_in(plan, marks, first, part, width, mask, i);
+    let lower_bound = Edge::LowerBound(i);
+    edge_in(plan, marks, horizon, first, part, width, mask, lower_bound);
 }
 
 // Rule 4 of link i.
@@ -192,10 +234,11 @@ fn letter_in(plan: &[u8], first: &[u32], part: &mut [u32], width: usize, x: usiz
     remove_in(first, part, width, by, x);
 }
 
-// Rules 2 to 4 of link i.
+// Rules 2 to 4 of link i, and rule 1 of its two edges.
 fn fill_link(
     plan: &[u8],
     marks: &[u8; 256],
+    horizon: u64,
     first: &[u32],
     part: &mut [u32],
     width: usize,
@@ -203,31 +246,34 @@ fn fill_link(
     x: usize,
     i: usize,
 )
-    requires { ⌜ RowsLent (now plan) (now marks) (now first) (now part) width mask × (i < planOf (now plan) .links) × (x < planOf (now plan) .points) ⌝ }
+    requires { ⌜ RowsLent (now plan) (now marks) (now first) (now part) width mask × (horizon ≡ planOf (now plan) .horizon) ⌝ }
+    requires { ⌜ (i < planOf (now plan) .links) × (x < planOf (now plan) .points) ⌝ }
     ensures { λ _. ⌜ after part ≡ shapes.fillLink (planOf (before plan)) (before first) x i (before part) ⌝ }
     ensures { λ _. ⌜ SameLength part ⌝ }
 {
-    lower_in(plan, marks, first, part, width, mask, x, i);
-    upper_in(plan, marks, first, part, width, mask, x, i);
+    activation_in(plan, marks, horizon, first, part, width, mask, x, i);
+    finish_in(plan, marks, horizon, first, part, width, mask, x, i);
     letter_in(plan, first, part, width, x, i);
 }
 
 fn fill_links(
     plan: &[u8],
     marks: &[u8; 256],
+    horizon: u64,
     first: &[u32],
     part: &mut [u32],
     width: usize,
     mask: usize,
     x: usize,
 )
-    requires { ⌜ RowsLent (now plan) (now marks) (now first) (now part) width mask × (x < planOf (now plan) .points) ⌝ }
+    requires { ⌜ RowsLent (now plan) (now marks) (now first) (now part) width mask × (horizon ≡ planOf (now plan) .horizon) ⌝ }
+    requires { ⌜ x < planOf (now plan) .points ⌝ }
     ensures { λ _. ⌜ after part ≡ shapes.fillLinks (planOf (before plan)) (before first) x (before part) ⌝ }
     ensures { λ _. ⌜ SameLength part ⌝ }
 {
     let n = links(plan);
     for i in 0..n {
-        fill_link(plan, marks, first, part, width, mask, x, i);
+        fill_link(plan, marks, horizon, first, part, width, mask, x, i);
     }
 }
 
@@ -291,8 +337,8 @@ pub fn fill_point(
     let mask = label_mask(plan);
     let start = x * width;
     copy_cells(&first[start..], part, width);
-    fill_edges(plan, marks, first, part, width, mask, x);
+    fill_edges(plan, marks, horizon, first, part, width, mask, x);
     horizon_at(plan, marks, horizon, first, part, width, mask, x);
-    fill_links(plan, marks, first, part, width, mask, x);
+    fill_links(plan, marks, horizon, first, part, width, mask, x);
     fill_propositions(plan, first, part, width, x);
 }

@@ -1,10 +1,6 @@
 // The shapes of a plan's rows: what a row avoids, adds and removes, as bits of a place.
 use crate::shapes::Propagator;
 use crate::shapes::Remover;
-use plan::edge_down;
-use plan::edge_label;
-use plan::edge_to;
-use plan::edge_up;
 use plan::labels;
 use plan::link_activation;
 use plan::link_finish;
@@ -12,11 +8,15 @@ use plan::link_least;
 use plan::link_most;
 use plan::observer;
 use plan::propositions;
+use rules::Edge;
+use rules::constraint_of;
 ghost use mathlib.Core.Path.{_≡_};
 ghost use Prim.Native.Nat.{_^_, _<_};
 ghost use Rattle.plan.specs.Moments.{before};
 ghost use Rattle.plan.specs.Layout.{planOf};
 ghost use Rattle.plan.specs.Refusal.{Accepted};
+ghost use Rattle.rules.specs.Derivations.{InPlan};
+ghost use Rattle.rules.specs.declared.Rule.the-variants as rule;
 ghost use Rattle.rules_fill.specs.Shapes as shapes;
 ghost use Rattle.rules_fill.specs.Rows.{EdgeRow, LowerRow, UpperRow, LetterRow, LiteralRow};
 
@@ -50,17 +50,18 @@ fn digit_bit(j: usize) -> usize
     1 << (2 * j)
 }
 
-// Rule 1 of edge i.
-pub fn edge_row(plan: &[u8], i: usize) -> Propagator
-    requires { ⌜ Accepted (now plan) × (i < planOf (now plan) .edges) ⌝ }
-    ensures { λ r. ⌜ EdgeRow (planOf (before plan)) i r ⌝ }
+// Rule 1 of an edge.
+pub fn edge_row(plan: &[u8], horizon: u64, e: Edge) -> Propagator
+    requires { ⌜ Accepted (now plan) × InPlan (planOf (now plan)) (rule.Propagation e) × (horizon ≡ planOf (now plan) .horizon) ⌝ }
+    ensures { λ r. ⌜ EdgeRow (planOf (before plan)) e r ⌝ }
 {
+    let edge = constraint_of(plan, horizon, e);
     Propagator {
-        from: edge_to(plan, i),
+        from: edge.to,
         avoid: 0,
-        add: edge_label(plan, i),
-        up: edge_up(plan, i),
-        down: edge_down(plan, i),
+        add: edge.label,
+        up: edge.up,
+        down: edge.down,
     }
 }
 

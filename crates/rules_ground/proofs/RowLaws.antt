@@ -1,22 +1,19 @@
 -- A rule that a match found is the rule that was asked of: its row's number fits a byte, and its points are those read.
-use mathlib.Core.Path.{_≡_, refl, subst}
+use mathlib.Core.Path.{_≡_, refl, ap, subst}
 use mathlib.Core.List.{List}
 use Prim.Native.Nat.{ℕ, _<_}
 use Rattle.plan.specs.Plan.{Plan}
 use Rattle.plan.specs.Layout.{planOf}
 use Rattle.plan.specs.Refusal.{Accepted}
-use Rattle.plan.proofs.Ranges.{edge-byte, link-byte, proposition-byte}
+use Rattle.plan.proofs.Ranges.{link-byte, proposition-byte}
 use Rattle.rules.specs.declared.Edge.{Edge}
-use Rattle.rules.specs.declared.Edge.the-variants.{PlanEdge}
+use Rattle.rules.specs.declared.Constraint.{Constraint}
 use Rattle.rules.specs.declared.Rule.{Rule}
 use Rattle.rules.specs.declared.Rule.the-variants.{Propagation, LowerCase, UpperCase, LetterRemoval, LiteralRemoval}
+use Rattle.rules.specs.Rules.{constraintOf}
 use Rattle.rules.specs.Derivations.{InPlan}
 use Rattle.rules_ground.specs.declared.RulePoints.{RulePoints}
 use Rattle.rules_ground.specs.Searching.{PointsOf}
-
-module _ (bs : List ℕ) (e : Edge) (accepted : Accepted bs) (row : InPlan (planOf bs) (Propagation e)) where
-  pub edge-number : (i : ℕ) → e ≡ PlanEdge i → i < 256
-  edge-number i q = edge-byte bs accepted i (subst (λ (d : Edge). InPlan (planOf bs) (Propagation d)) q row)
 
 module _ (bs : List ℕ) (by : Rule) (accepted : Accepted bs) (row : InPlan (planOf bs) by) where
   pub edge-row : (e : Edge) → by ≡ Propagation e → InPlan (planOf bs) (Propagation e)
@@ -35,8 +32,8 @@ module _ (bs : List ℕ) (by : Rule) (accepted : Accepted bs) (row : InPlan (pla
   literal-number j q = proposition-byte bs accepted j (subst (InPlan (planOf bs)) q row)
 
 module _ (P : Plan) (x : ℕ) where
-  pub plan-edge-points : (e : Edge) (i a b : ℕ) → e ≡ PlanEdge i → a ≡ P .from i → b ≡ P .to i → PointsOf P (Propagation e) x (record { given = a; first = b; second = 0 })
-  plan-edge-points e i a b q ea eb = rw q (record { given-is = ea; first-is = eb; second-is = refl })
+  pub constraint-points : (e : Edge) (c : Constraint) → c ≡ constraintOf P e → PointsOf P (Propagation e) x (record { given = c .from; first = c .to; second = 0 })
+  constraint-points e c q = record { given-is = ap (λ (d : Constraint). d .from) q; first-is = ap (λ (d : Constraint). d .to) q; second-is = refl }
 
   module _ (by : Rule) where
     pub edge-points : (e : Edge) (at : RulePoints) → by ≡ Propagation e → PointsOf P (Propagation e) x at → PointsOf P by x at
@@ -54,4 +51,4 @@ module _ (P : Plan) (x : ℕ) where
     pub literal-points : (j a : ℕ) → by ≡ LiteralRemoval j → a ≡ P .observer j → PointsOf P by x (record { given = x; first = x; second = a })
     literal-points j a q e = rw q (record { given-is = refl; first-is = refl; second-is = e })
 
-pub ruleset rows = (edge-number, edge-row, lower-number, upper-number, letter-number, literal-number, plan-edge-points, edge-points, lower-points, upper-points, letter-points, literal-points)
+pub ruleset rows = (edge-row, lower-number, upper-number, letter-number, literal-number, constraint-points, edge-points, lower-points, upper-points, letter-points, literal-points)

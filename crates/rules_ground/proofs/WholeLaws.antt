@@ -7,7 +7,7 @@ use Prim.Native.Nat.{ℕ}
 use native.Mathlib.Omega.{arith}
 use Rattle.plan.specs.Plan.{Plan}
 use Rattle.rules.specs.declared.Line.{Line}
-use Rattle.rules.specs.declared.Edge.the-variants.{PlanEdge, HorizonEdge}
+use Rattle.rules.specs.declared.Edge.the-variants.{PlanEdge, HorizonEdge, UpperBound, LowerBound}
 use Rattle.rules.specs.declared.Rule.{Rule}
 use Rattle.rules.specs.declared.Rule.the-variants.{Propagation, LowerCase, UpperCase, LetterRemoval, OwnLiteral, LiteralRemoval}
 use Rattle.rules_ground.specs.declared.Found.{Found}
@@ -23,8 +23,10 @@ module _ (P : Plan) (T : List ℕ) (k : Line) where
   none-at-all : (ByEdges P T k → ⊥) → (ByHorizonEdges P T k → ⊥) → (ByLinks P T k → ⊥) → (ByPropositions P T k → ⊥) → (r : Rule) (c d : ℕ) → SecondAt P T k r c d → ⊥
   none-at-all e h l p (Propagation (PlanEdge i)) c d g = e (record { index = i; from = omega arith; below = g .row; holds = by-rule (Propagation (PlanEdge i)) c d g })
   none-at-all e h l p (Propagation (HorizonEdge x)) c d g = h (record { index = x; from = g .row .0; below = g .row .1; holds = by-rule (Propagation (HorizonEdge x)) c d g })
-  none-at-all e h l p (LowerCase i) c d g = l (record { index = i; from = omega arith; below = g .row; holds = inl (by-rule (LowerCase i) c d g) })
-  none-at-all e h l p (UpperCase i) c d g = l (record { index = i; from = omega arith; below = g .row; holds = inr (inl (by-rule (UpperCase i) c d g)) })
+  none-at-all e h l p (Propagation (UpperBound i)) c d g = l (record { index = i; from = omega arith; below = g .row; holds = inl (inl (by-rule (Propagation (UpperBound i)) c d g)) })
+  none-at-all e h l p (Propagation (LowerBound i)) c d g = l (record { index = i; from = omega arith; below = g .row; holds = inl (inr (by-rule (Propagation (LowerBound i)) c d g)) })
+  none-at-all e h l p (LowerCase i) c d g = l (record { index = i; from = omega arith; below = g .row; holds = inr (inl (inl (by-rule (LowerCase i) c d g))) })
+  none-at-all e h l p (UpperCase i) c d g = l (record { index = i; from = omega arith; below = g .row; holds = inr (inl (inr (by-rule (UpperCase i) c d g))) })
   none-at-all e h l p (LetterRemoval i) c d g = l (record { index = i; from = omega arith; below = g .row; holds = inr (inr (by-rule (LetterRemoval i) c d g)) })
   none-at-all e h l p (OwnLiteral j) c d g = p (record { index = j; from = omega arith; below = g .row; holds = inl (by-rule (OwnLiteral j) c d g) })
   none-at-all e h l p (LiteralRemoval j) c d g = p (record { index = j; from = omega arith; below = g .row; holds = inr (by-rule (LiteralRemoval j) c d g) })

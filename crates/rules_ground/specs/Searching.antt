@@ -11,7 +11,7 @@ use Rattle.plan.specs.Plan.{Plan, width, cells}
 use Rattle.plan.specs.Layout.{planOf}
 use Rattle.plan.specs.Refusal.{Accepted}
 use Rattle.rules.specs.declared.Line.{Line}
-use Rattle.rules.specs.declared.Edge.the-variants.{PlanEdge, HorizonEdge}
+use Rattle.rules.specs.declared.Edge.the-variants.{PlanEdge, HorizonEdge, UpperBound, LowerBound}
 use Rattle.rules.specs.declared.Rule.{Rule}
 use Rattle.rules.specs.declared.Rule.the-variants.{Propagation, LowerCase, UpperCase, LetterRemoval, OwnLiteral, LiteralRemoval}
 use Rattle.rules.specs.Lines.{lineAt}
@@ -113,12 +113,19 @@ pub record ByRule (r : Rule) (P : Plan) (T : List ℕ) (k : Line) : Type 0 where
   pub first : ℕ
   pub at-first : FirstAt P T k r first
 
--- by one of the rules of link i, or of proposition j
-abbrev pub ByLink : ℕ → Sought
-ByLink i P T k = ByRule (LowerCase i) P T k ⊎ (ByRule (UpperCase i) P T k ⊎ ByRule (LetterRemoval i) P T k)
+-- by one of two rules
+abbrev pub ByEither : Rule → Rule → Sought
+ByEither r q P T k = ByRule r P T k ⊎ ByRule q P T k
 
+-- by one of the two edges of link i, or by one of its rules
+abbrev pub ByLink : ℕ → Sought
+ByLink i P T k =
+    ByEither (Propagation (UpperBound i)) (Propagation (LowerBound i)) P T k
+    ⊎ (ByEither (LowerCase i) (UpperCase i) P T k ⊎ ByRule (LetterRemoval i) P T k)
+
+-- by one of the rules of proposition j
 abbrev pub ByProposition : ℕ → Sought
-ByProposition j P T k = ByRule (OwnLiteral j) P T k ⊎ ByRule (LiteralRemoval j) P T k
+ByProposition j = ByEither (OwnLiteral j) (LiteralRemoval j)
 
 -- by a row of each kind
 abbrev pub ByEdges : Sought

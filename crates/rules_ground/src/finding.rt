@@ -19,7 +19,7 @@ ghost use Rattle.plan.specs.Layout.{planOf};
 ghost use Rattle.plan.specs.Refusal.{Accepted};
 ghost use Rattle.rules.specs.Derivations.{InPlan};
 ghost use Rattle.rules_ground.specs.Grounds.{Searchable, Tells};
-ghost use Rattle.rules_ground.specs.Searching.{Searched, SearchFor, isFound, Finds, ByRule, ByLink, ByProposition, ByEdges, ByHorizonEdges, ByLinks, ByPropositions};
+ghost use Rattle.rules_ground.specs.Searching.{Searched, SearchFor, isFound, Finds, ByRule, ByEither, ByLink, ByEdges, ByHorizonEdges, ByLinks, ByPropositions};
 
 fn is_found(f: Found) -> bool
     ensures { λ r. ⌜ r ≡ isFound f ⌝ }
@@ -36,7 +36,7 @@ fn find_by(plan: &[u8], marks: &[u8; 256], table: &[u32], s: Search, by: Rule) -
     ensures { λ r. ⌜ Finds (before plan) (before table) s (ByRule by) r ⌝ }
 {
     let x = s.line.point;
-    let at = points_of(plan, by, x);
+    let at = points_of(plan, s.horizon, by, x);
     if at.given != x {
         return Found::Nothing;
     }
@@ -49,6 +49,25 @@ fn find_by(plan: &[u8], marks: &[u8; 256], table: &[u32], s: Search, by: Rule) -
         }
     }
     Found::Nothing
+}
+
+// A ground by one of two rules with their rows.
+fn find_by_either(
+    plan: &[u8],
+    marks: &[u8; 256],
+    table: &[u32],
+    s: Search,
+    by: Rule,
+    other: Rule,
+) -> Found
+    requires { ⌜ Searched (now plan) (now marks) (now table) s × InPlan (planOf (now plan)) by × InPlan (planOf (now plan)) other ⌝ }
+    ensures { λ r. ⌜ Finds (before plan) (before table) s (ByEither by other) r ⌝ }
+{
+    let found = find_by(plan, marks, table, s, by);
+    if is_found(found) {
+        return found;
+    }
+    find_by(plan, marks, table, s, other)
 }
 
 fn find_in_edges(plan: &[u8], marks: &[u8; 256], table: &[u32], s: Search) -> Found
@@ -85,18 +104,27 @@ fn find_in_horizon_edges(plan: &[u8], marks: &[u8; 256], table: &[u32], s: Searc
     Found::Nothing
 }
 
-// A ground by a rule of one link.
+// A ground by one link: by one of its two edges, or by rule 2, 3 or 4.
 fn find_by_link(plan: &[u8], marks: &[u8; 256], table: &[u32], s: Search, i: usize) -> Found
     requires { ⌜ Searched (now plan) (now marks) (now table) s × (i < planOf (now plan) .links) ⌝ }
     ensures { λ r. ⌜ Finds (before plan) (before table) s (ByLink i) r ⌝ }
 {
-    let lower = find_by(plan, marks, table, s, Rule::LowerCase(i));
-    if is_found(lower) {
-        return lower;
+    let upper_bound = Rule::Propagation(Edge::UpperBound(i));
+    let lower_bound = Rule::Propagation(Edge::LowerBound(i));
+    let bound = find_by_either(plan, marks, table, s, upper_bound, lower_bound);
+    if is_found(bound) {
+        return bound;
     }
-    let upper = find_by(plan, marks, table, s, Rule::UpperCase(i));
-    if is_found(upper) {
-        return upper;
+    let case = find_by_either(
+        plan,
+        marks,
+        table,
+        s,
+        Rule::LowerCase(i),
+        Rule::UpperCase(i),
+    );
+    if is_found(case) {
+        return case;
     }
     find_by(plan, marks, table, s, Rule::LetterRemoval(i))
 }
@@ -115,25 +143,14 @@ fn find_in_links(plan: &[u8], marks: &[u8; 256], table: &[u32], s: Search) -> Fo
     Found::Nothing
 }
 
-// A ground by a rule of one proposition.
-fn find_by_proposition(plan: &[u8], marks: &[u8; 256], table: &[u32], s: Search, j: usize) -> Found
-    requires { ⌜ Searched (now plan) (now marks) (now table) s × (j < planOf (now plan) .propositions) ⌝ }
-    ensures { λ r. ⌜ Finds (before plan) (before table) s (ByProposition j) r ⌝ }
-{
-    let own = find_by(plan, marks, table, s, Rule::OwnLiteral(j));
-    if is_found(own) {
-        return own;
-    }
-    find_by(plan, marks, table, s, Rule::LiteralRemoval(j))
-}
-
 fn find_in_propositions(plan: &[u8], marks: &[u8; 256], table: &[u32], s: Search) -> Found
     requires { ⌜ Searched (now plan) (now marks) (now table) s ⌝ }
     ensures { λ r. ⌜ Finds (before plan) (before table) s ByPropositions r ⌝ }
 {
     let n = propositions(plan);
     for j in 0..n {
-        let found = find_by_proposition(plan, marks, table, s, j);
+        let own = Rule::OwnLiteral(j);
+        let found = find_by_either(plan, marks, table, s, own, Rule::LiteralRemoval(j));
         if is_found(found) {
             return found;
         }

@@ -92,7 +92,7 @@ fn find_with_two(
     if cell_at(table, c) < s.line.wait {
         return Found::Nothing;
     }
-    let at = points_of(plan, by, s.line.point);
+    let at = points_of(plan, s.horizon, by, s.line.point);
     let lo = at.second * s.width;
     find_second(plan, marks, table, s, by, c, lo, lo + s.width)
 }

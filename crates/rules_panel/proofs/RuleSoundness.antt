@@ -13,10 +13,10 @@ use Rattle.plan.proofs.Digits.{Carries, clear-other, join-left, join-right, pla
 use Rattle.plan.proofs.Ranges.{WellFormed}
 use Rattle.rules.specs.declared.Line.{Line}
 use Rattle.rules.specs.declared.Edge.{Edge}
-use Rattle.rules.specs.declared.Edge.the-variants.{PlanEdge, HorizonEdge}
+use Rattle.rules.specs.declared.Edge.the-variants.{PlanEdge, HorizonEdge, UpperBound, LowerBound}
 use Rattle.rules.specs.declared.Rule.{Rule}
 use Rattle.rules.specs.declared.Rule.the-variants.{Propagation, LowerCase, UpperCase, LetterRemoval, OwnLiteral, LiteralRemoval}
-use Rattle.rules.specs.Rules.{edgeFrom, edgeTo, edgeLabel, lessWeight, result}
+use Rattle.rules.specs.Rules.{constraintOf, lessWeight, result}
 use Rattle.rules.specs.Derivations.{InPlan}
 use Rattle.rules.proofs.Deriving.{Fires}
 use Rattle.rules_panel.specs.Dramas.{Durations, LeastOrMost, Drama, True}
@@ -52,20 +52,22 @@ module _ {P : Plan} {q : ℕ} (wf : WellFormed P) (some : 0 < q) (panel : Panel 
   plain-speaks l r p t s = record { label-true = t; set-longest = s; none-told = λ j h e k. plain-known (P .propositions) (l .label) j p h e }
 
   -- ---- 6.1
-  edge-kept : (e : Edge) → InPlan P (Propagation e) → (r : Drama P (LeastOrMost P)) → True P (r .scenario) (edgeLabel P e) → (w : ℕ) → q * w ≤ σ .time r (edgeTo P e) → q * lessWeight P e w ≤ σ .time r (edgeFrom P e)
+  edge-kept : (e : Edge) → InPlan P (Propagation e) → (r : Drama P (LeastOrMost P)) → True P (r .scenario) (constraintOf P e .label) → (w : ℕ) → q * w ≤ σ .time r (constraintOf P e .to) → q * lessWeight (constraintOf P e) w ≤ σ .time r (constraintOf P e .from)
   edge-kept (PlanEdge i) h r t w k = less-ticks q (w + P .down i) (P .up i) (σ .time r (P .from i)) (omega (arith, panel .viable .keeps-edge r i h t))
-  edge-kept (HorizonEdge x) h r t w k = less-ticks q w (P .horizon) (σ .time r 0) (omega (arith, panel .viable .first-at-start r, within .ends-in r x (h .1)))
+  edge-kept (HorizonEdge x) h r t w k = less-ticks q (w + 0) (P .horizon) (σ .time r 0) (omega (arith, panel .viable .first-at-start r, within .ends-in r x (h .1)))
+  edge-kept (UpperBound i) h r t w k = less-ticks q (w + 0) (P .most i) (σ .time r (P .activation i)) (omega (arith, panel .viable .keeps-link r i h, mul-le-mul-left q (r .no-longer i h)))
+  edge-kept (LowerBound i) h r t w k = less-ticks q (w + P .least i) 0 (σ .time r (P .finish i)) (omega (arith, panel .viable .keeps-link r i h, mul-le-mul-left q (r .no-shorter i h)))
 
   propagation : (e : Edge) → InPlan P (Propagation e) → (l m : Line) → Holds σ q l → Fires P (Propagation e) l m → Holds σ q (result P (Propagation e) l m)
   propagation e h l m a f = record { waits = go }
     where
       J : ℕ
-      J = join (P .propositions) (edgeLabel P e) (l .label)
+      J = join (P .propositions) (constraintOf P e .label) (l .label)
 
-      go : (r : Drama P (LeastOrMost P)) → SpeaksOf σ (result P (Propagation e) l m) r → q * lessWeight P e (l .wait) ≤ σ .time r (edgeFrom P e)
+      go : (r : Drama P (LeastOrMost P)) → SpeaksOf σ (result P (Propagation e) l m) r → q * lessWeight (constraintOf P e) (l .wait) ≤ σ .time r (constraintOf P e .from)
       go r s =
-          let of-edge = true-of P (r .scenario) (edgeLabel P e) J (s .label-true) (f .2) (join-left (P .propositions) (edgeLabel P e) (l .label)) in
-          let of-line = true-of P (r .scenario) (l .label) J (s .label-true) (f .2) (join-right (P .propositions) (edgeLabel P e) (l .label)) in
+          let of-edge = true-of P (r .scenario) (constraintOf P e .label) J (s .label-true) (f .2) (join-left (P .propositions) (constraintOf P e .label) (l .label)) in
+          let of-line = true-of P (r .scenario) (l .label) J (s .label-true) (f .2) (join-right (P .propositions) (constraintOf P e .label) (l .label)) in
           edge-kept e h r of-edge (l .wait) (rw (f .0) at (a .waits r (plain-speaks l r (f .1) of-line (s .set-longest))))
 
   -- ---- 6.2

@@ -16,20 +16,22 @@ use sulgrach_tests::second::{self, Verdict, EVERY_PLAN};
 /// Code and rounds of a check; the tables are left as the check leaves them.
 type Check = fn(plan: &[u8], first: &mut [u32], second: &mut [u32], limit: u64) -> (u32, u64);
 
-/// A checker, and the most rounds that it is given time for.
+/// A checker, the most rounds that it is given time for, and whether it must
+/// answer as the library does: an earlier one may have had other rules.
 struct Checker {
     name: &'static str,
     check: Check,
     most_rounds: u64,
+    agrees: bool,
 }
 
 /// The checkers, the library first: the others are measured against it.
 const CHECKERS: &[Checker] = &[
-    Checker { name: "library", check: check_library, most_rounds: EVERY_PLAN },
+    Checker { name: "library", check: check_library, most_rounds: EVERY_PLAN, agrees: true },
     #[cfg(earlier_library)]
-    Checker { name: "earlier", check: check_earlier, most_rounds: EVERY_PLAN },
-    Checker { name: "port", check: port::check, most_rounds: EVERY_PLAN },
-    Checker { name: "second", check: check_second, most_rounds: 20_000 },
+    Checker { name: "earlier", check: check_earlier, most_rounds: EVERY_PLAN, agrees: false },
+    Checker { name: "port", check: port::check, most_rounds: EVERY_PLAN, agrees: true },
+    Checker { name: "second", check: check_second, most_rounds: 20_000, agrees: true },
 ];
 
 fn check_library(plan: &[u8], first: &mut [u32], second: &mut [u32], limit: u64) -> (u32, u64) {
@@ -134,7 +136,7 @@ fn run(class: &str, cases: impl Iterator<Item = Case>) {
         let measures = measure_all(&case, &mut vec![0; cells], &mut vec![0; cells]);
         report(&case, cells, &measures);
         for (ratios, measure) in ratios.iter_mut().zip(&measures) {
-            ratios.push(per_round(measure) / per_round(&measures[0]));
+            ratios.push(times(measure, &measures[0]));
         }
     }
     for (checker, ratios) in CHECKERS.iter().zip(&ratios).skip(1) {
@@ -188,28 +190,33 @@ fn measure_all(case: &Case, first: &mut [u32], second: &mut [u32]) -> Vec<Measur
 
 fn report(case: &Case, cells: usize, measures: &[Measure]) {
     let library = &measures[0];
-    let answer = ["kept", "broken", "spent"].get(library.code as usize).copied().unwrap_or("refused");
-    println!("  {}: {cells} cells, {answer} {}", case.name, library.rounds);
+    println!("  {}: {cells} cells, {} {}", case.name, answer(library), library.rounds);
     for (checker, measure) in CHECKERS.iter().zip(measures) {
-        // A checker with a smaller limit is compared round by round.
+        let same = (measure.code, measure.rounds) == (library.code, library.rounds);
         let shortened = measure.limit < library.rounds;
-        if !shortened {
-            assert_eq!(
-                (measure.code, measure.rounds),
-                (library.code, library.rounds),
-                "{} on {}",
-                checker.name,
-                case.name
-            );
-        }
+        assert!(same || shortened || !checker.agrees, "{} on {}", checker.name, case.name);
         println!(
             "    {:8} {:>12} a check, {:>12} a round, {:.2} times the library's{}",
             checker.name,
             time(measure.shortest.as_secs_f64()),
             time(per_round(measure)),
-            per_round(measure) / per_round(library),
-            if shortened { format!(" (only {} rounds)", measure.rounds) } else { String::new() },
+            times(measure, library),
+            if same { String::new() } else { format!(" ({} {})", answer(measure), measure.rounds) },
         );
+    }
+}
+
+fn answer(measure: &Measure) -> &'static str {
+    ["kept", "broken", "spent"].get(measure.code as usize).copied().unwrap_or("refused")
+}
+
+/// The time of a check in times the library's; one with a smaller limit is
+/// compared round by round.
+fn times(measure: &Measure, library: &Measure) -> f64 {
+    if measure.limit < library.rounds {
+        per_round(measure) / per_round(library)
+    } else {
+        measure.shortest.as_secs_f64() / library.shortest.as_secs_f64()
     }
 }
 

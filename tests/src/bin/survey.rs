@@ -4,7 +4,7 @@
 use std::time::Instant;
 use sulgrach_tests::generate::{samples, Class, CLASSES};
 use sulgrach_tests::second;
-use sulgrach_tests::tally::Tally;
+use sulgrach_tests::tally::{LinkEdgeChanges, LinkEdgeTally, Tally};
 use sulgrach_tests::times;
 
 fn main() {
@@ -18,12 +18,15 @@ fn main() {
         };
         let started = Instant::now();
         let mut tally = Tally::default();
+        let mut link_edges = LinkEdgeTally::default();
         for sample in samples(class, 0, times(count)) {
             let plan =
                 second::read(&sample.plan).unwrap_or_else(|refusal| panic!("refused {refusal}: {sample}"));
             tally.add(&plan, cap, class != Class::Dense);
+            link_edges.add(&plan, cap);
         }
         print(&mut tally);
+        print_link_edges(&link_edges);
         println!("  {:.1} s, at most {cap} rounds a plan\n", started.elapsed().as_secs_f64());
     }
 }
@@ -48,4 +51,31 @@ fn print(tally: &mut Tally) {
             tally.changes_verdict[rule],
         );
     }
+}
+
+fn print_link_edges(tally: &LinkEdgeTally) {
+    println!("  with the edges that links add, and without them:");
+    print_changes("plans with links", &tally.all);
+    print_changes("kept ones", &tally.kept);
+    println!(
+        "    another verdict in {}; of {} short listings {} need an upper bound, {} a lower one",
+        tally.other_verdicts.len(),
+        tally.searched,
+        tally.need_upper,
+        tally.need_lower,
+    );
+}
+
+fn print_changes(of: &str, changes: &LinkEdgeChanges) {
+    println!(
+        "    {} {of}: other cells in {}, only another count in {}; more rounds in {}, fewer in {}; \
+         a later activation in {}, which waits either way in {}",
+        changes.plans,
+        changes.other_cells,
+        changes.other_count_only,
+        changes.more_rounds,
+        changes.fewer_rounds,
+        changes.later_activation,
+        changes.later_waiting_activation,
+    );
 }

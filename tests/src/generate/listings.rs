@@ -99,15 +99,17 @@ impl<'a> Derivation<'a> {
     }
 
     /// Any rule, row and parents in range, late lines more often than early
-    /// ones; none if the rule has no rows.
+    /// ones; none if the rule has no rows. Rule 1 takes an edge of a link every
+    /// other time.
     fn any_ground(&self, random: &mut Random) -> Option<Ground> {
         let rule = random.between(1, 6) as u8;
         let rows = match rule {
-            1 => self.plan.edges.len() + self.plan.points,
-            2..=4 => self.plan.links.len(),
-            _ => self.plan.observing.len(),
+            1 if random.chance(50) => first_link_row(self.plan)..self.plan.edge_rows(),
+            1 => 0..first_link_row(self.plan),
+            2..=4 => 0..self.plan.links.len(),
+            _ => 0..self.plan.observing.len(),
         };
-        let row = if rows == 0 { return None } else { random.below(rows) };
+        let row = if rows.is_empty() { return None } else { rows.start + random.below(rows.len()) };
         let first = self.any_line(random);
         let second = if uses_second_parent(rule) { self.any_line(random) } else { 0 };
         Some(Ground { rule, row, first, second })
@@ -125,6 +127,11 @@ impl<'a> Derivation<'a> {
             self.lines.truncate(self.plan.points + last + 1);
         }
     }
+}
+
+/// The first row of rule 1 that is an edge of a link, where there are links.
+fn first_link_row(plan: &Plan) -> usize {
+    plan.edges.len() + plan.points
 }
 
 /// What a rule would give if it had no conditions.
@@ -191,11 +198,13 @@ pub enum Damage {
     OtherEnd,
     /// After the end, a line that fails one of its rule's conditions.
     NearMiss,
+    /// A line given by an edge of a link is said to be given otherwise.
+    LinkEdge,
     AnyByte,
     Short,
 }
 
-pub const DAMAGES: [Damage; 17] = [
+pub const DAMAGES: [Damage; 18] = [
     Damage::Point,
     Damage::Set,
     Damage::Label,
@@ -211,6 +220,7 @@ pub const DAMAGES: [Damage; 17] = [
     Damage::LineTwice,
     Damage::OtherEnd,
     Damage::NearMiss,
+    Damage::LinkEdge,
     Damage::AnyByte,
     Damage::Short,
 ];
@@ -237,10 +247,36 @@ fn damage_lines(random: &mut Random, plan: &Plan, entries: &mut Vec<Entry>, dama
         Damage::LastLineGone => drop(entries.pop()),
         Damage::LinesSwapped => entries.swap(i, other),
         Damage::LineTwice => entries.push(entries[i]),
+        Damage::LinkEdge => damage_link_edge(random, plan, entries),
         _ => {
             damage_head(random, plan, &mut entries[i], damage);
             damage_ground(random, plan, i, &mut entries[i], damage);
         }
+    }
+}
+
+/// Damages one of the lines that an edge of a link gives, if there are any: its
+/// row is the link's other one, that of another link or no link's, its wait goes
+/// by the link's other duration, or its rule is one of the link's own.
+fn damage_link_edge(random: &mut Random, plan: &Plan, entries: &mut [Entry]) {
+    let first = first_link_row(plan) as u16;
+    let given: Vec<usize> =
+        (0..entries.len()).filter(|&i| entries[i].rule == 1 && entries[i].row >= first).collect();
+    if given.is_empty() {
+        return;
+    }
+    let entry = &mut entries[random.pick(&given)];
+    let number = entry.row - first;
+    let link = plan.links[usize::from(number / 2)];
+    let apart = (link.most - link.least) as u32;
+    let n = plan.points as u16;
+    match random.below(8) {
+        0 | 1 => entry.row = first + (number ^ 1),
+        2 => entry.row += 2,
+        3 => entry.row = random.pick(&[entry.row + 1, entry.row - 1, entry.row - 2, entry.row - n]),
+        4 | 5 => entry.wait += apart,
+        6 => entry.wait = entry.wait.wrapping_sub(apart),
+        _ => (entry.rule, entry.row) = (random.pick(&[2, 3, 4]), number / 2),
     }
 }
 
@@ -283,6 +319,9 @@ fn damage_ground(random: &mut Random, plan: &Plan, i: usize, entry: &mut Entry, 
                 e + n - 1,
                 e + n,
                 e + n + 1,
+                e + n + 2 * k - 1,
+                e + n + 2 * k,
+                e + n + 2 * k + 1,
                 k,
                 p,
                 256 | entry.row,

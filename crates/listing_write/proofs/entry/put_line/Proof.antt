@@ -1,6 +1,8 @@
 -- The head and the ground are the line.
 use denote.Ref.{now}
+use native.Mathlib.Omega.{arith}
 use Rattle.plan.specs.Layout.{planOf}
+use Rattle.plan.proofs.Ranges.{accepted-well-formed}
 use Rattle.listing_write.proofs.EntryBytes.{line-put}
 use borrow.Author.Needs.{needs}
 use Rattle.listing_write.proofs.entry.put_line.Statement.{statement}
@@ -51,7 +53,7 @@ returns c =
     let b = c .before .before .before .second-number in
     let g = c .before .before .put-ground in
     let r = s .pre .0 in
-    line-put (planOf (now (s .args .plan))) (s .args .m) (s .args .i) (s .args .line) (s .args .ground) (n .result) (w .result) (b .result) (now (s .args .out)) _ _ (s .pre .1 .row) (r .listing .count) (r .listing .long) (r .room) (n .ensures .0) (w .ensures .0) (b .ensures .0) (p .ensures .0) (g .ensures .0)
+    line-put (planOf (now (s .args .plan))) (s .args .m) (s .args .i) (s .args .line) (s .args .ground) (n .result) (w .result) (b .result) (now (s .args .out)) _ _ (omega (arith, accepted-well-formed (now (s .args .plan)) (r .accepted) .two)) (s .pre .1 .row) (r .listing .count) (r .listing .long) (r .room) (n .ensures .0) (w .ensures .0) (b .ensures .0) (p .ensures .0) (g .ensures .0)
 
 pub put-line-spec : {M : Type 1} → statement M
 put-line-spec =

@@ -16,11 +16,14 @@ returns-2 c = search rules-named
 points-requires : tie.Need-points-requires
 points-requires c κs = search needs
 
-add-if3 : tie.Need-add-if3
-add-if3 c = search needs
+add-first-bound : tie.Need-add-first-bound
+add-first-bound c = search needs
 
 returns-3 : tie.Need-returns-3
 returns-3 c = search rules-named
+
+bound-rule-requires : tie.Need-bound-rule-requires
+bound-rule-requires c κs = search needs
 
 returns-4 : tie.Need-returns-4
 returns-4 c = search rules-named
@@ -28,4 +31,12 @@ returns-4 c = search rules-named
 pub edge-rule-spec : {M : Type 1} → statement M
 edge-rule-spec =
     tie.close
-    (tie.spec edges-requires returns returns-2 points-requires add-if3 returns-3 returns-4)
+    (tie.spec
+    edges-requires
+    returns
+    returns-2
+    points-requires
+    add-first-bound
+    returns-3
+    bound-rule-requires
+    returns-4)

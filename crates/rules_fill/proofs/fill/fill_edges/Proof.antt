@@ -14,10 +14,10 @@ use Rattle.rules_fill.proofs.fill.fill_edges.Statement.{statement}
 use Rattle.rules_fill.proofs.fill.fill_edges.Tie as tie
 
 abbrev Inv-loop : tie.InvT-loop
-Inv-loop plan marks first part₀ width mask x n i₀ part i = (i ≤ n) × (part ≡ steps (fillEdge (planOf plan) first x) i part₀) × (length part ≡ length part₀)
+Inv-loop plan marks horizon first part₀ width mask x n i₀ part i = (i ≤ n) × (part ≡ steps (fillEdge (planOf plan) first x) i part₀) × (length part ≡ length part₀)
 
 abbrev μ-loop : tie.MeasureT-loop
-μ-loop plan marks first part₀ width mask x n i₀ part i = n - i
+μ-loop plan marks horizon first part₀ width mask x n i₀ part i = n - i
 
 edges-requires : tie.Need-edges-requires Inv-loop μ-loop
 edges-requires c κs = search needs
@@ -25,10 +25,10 @@ edges-requires c κs = search needs
 loop-holds : tie.Need-loop-holds Inv-loop μ-loop
 loop-holds c = (omega arith, steps-none _ _, refl)
 
-edge-in-requires : tie.Need-edge-in-requires Inv-loop μ-loop
-edge-in-requires c κs =
+plan-edge-in-requires : tie.Need-plan-edge-in-requires Inv-loop μ-loop
+plan-edge-in-requires c κs =
     let p = c .before .before .before .before .before .before .before .pre in
-    (rows-on _ _ _ _ _ _ _ p (c .before .before .loop .inv .2), omega (arith, c .before .before .before .edges .ensures .0))
+    ((rows-on _ _ _ _ _ _ _ (p .0) (c .before .before .loop .inv .2), p .1), omega (arith, c .before .before .before .edges .ensures .0))
 
 add-i : tie.Need-add-i Inv-loop μ-loop
 add-i c = omega arith
@@ -39,7 +39,7 @@ loop-less c = omega arith
 loop-again : tie.Need-loop-again Inv-loop μ-loop
 loop-again c =
     let l = c .before .before .before .before .before .loop in
-    let r = c .before .before .edge-in .ensures in
+    let r = c .before .before .plan-edge-in .ensures in
     (omega arith, step-made _ _ _ _ _ (l .inv .1) (r .0), r .1 ∙ l .inv .2)
 
 same-length : tie.Need-same-length Inv-loop μ-loop
@@ -57,7 +57,7 @@ fill-edges-spec =
     μ-loop
     edges-requires
     loop-holds
-    edge-in-requires
+    plan-edge-in-requires
     add-i
     loop-less
     loop-again

@@ -6,8 +6,9 @@ use lib.ListN.{length}
 use denote.Ref.{now}
 use Rattle.plan.specs.Layout.{planOf}
 use Rattle.plan.proofs.Ranges.{accepted-well-formed}
+use Rattle.rules.specs.declared.Edge.the-variants.{HorizonEdge}
 use Rattle.rules_fill.specs.Steps.{steps}
-use Rattle.rules_fill.specs.Shapes.{horizonIn, fillHorizon}
+use Rattle.rules_fill.specs.Shapes.{edgeIn, fillHorizon}
 use Rattle.rules_fill.proofs.StepLaws.{steps-none}
 use Rattle.rules_fill.proofs.ShapeLaws.{done, horizon-turn}
 use Rattle.rules_fill.proofs.Lending.{rows-on}
@@ -16,7 +17,7 @@ use Rattle.rules_fill.proofs.fill.fill_horizon.Statement.{statement}
 use Rattle.rules_fill.proofs.fill.fill_horizon.Tie as tie
 
 abbrev Inv-loop : tie.InvT-loop
-Inv-loop plan marks horizon first part₀ width mask n y₀ part y = (0 < y) × (y ≤ n) × (part ≡ steps (λ z. horizonIn (planOf plan) first (suc z)) (y - 1) part₀) × (length part ≡ length part₀)
+Inv-loop plan marks horizon first part₀ width mask n y₀ part y = (0 < y) × (y ≤ n) × (part ≡ steps (λ z. edgeIn (planOf plan) first (HorizonEdge (suc z))) (y - 1) part₀) × (length part ≡ length part₀)
 
 abbrev μ-loop : tie.MeasureT-loop
 μ-loop plan marks horizon first part₀ width mask n y₀ part y = n - y
@@ -29,10 +30,10 @@ loop-holds c =
     let s = c .before .before .before .before in
     (omega arith, omega (arith, c .points .ensures .0, accepted-well-formed (now (s .args .plan)) (s .pre .0 .lent .accepted) .two), steps-none _ _, refl)
 
-horizon-in-requires : tie.Need-horizon-in-requires Inv-loop μ-loop
-horizon-in-requires c κs =
+edge-in-requires : tie.Need-edge-in-requires Inv-loop μ-loop
+edge-in-requires c κs =
     let p = c .before .before .before .before .before .before .before .pre in
-    ((rows-on _ _ _ _ _ _ _ (p .0) (c .before .before .loop .inv .3), omega (arith, c .before .before .before .points .ensures .0)), p .1)
+    ((rows-on _ _ _ _ _ _ _ (p .0) (c .before .before .loop .inv .3), p .1), (c .before .before .loop .inv .0, omega (arith, c .before .before .before .points .ensures .0)))
 
 add-y : tie.Need-add-y Inv-loop μ-loop
 add-y c = omega arith
@@ -43,7 +44,7 @@ loop-less c = omega arith
 loop-again : tie.Need-loop-again Inv-loop μ-loop
 loop-again c =
     let l = c .before .before .before .before .before .loop in
-    let r = c .before .before .horizon-in .ensures in
+    let r = c .before .before .edge-in .ensures in
     (omega arith, omega arith, horizon-turn _ _ _ _ _ _ (l .inv .0) (l .inv .2) (r .0), r .1 ∙ l .inv .3)
 
 same-length : tie.Need-same-length Inv-loop μ-loop
@@ -61,7 +62,7 @@ fill-horizon-spec =
     μ-loop
     points-requires
     loop-holds
-    horizon-in-requires
+    edge-in-requires
     add-y
     loop-less
     loop-again

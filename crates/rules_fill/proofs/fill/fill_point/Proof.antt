@@ -51,7 +51,7 @@ copy-cells-requires c κs =
 fill-edges-requires : tie.Need-fill-edges-requires
 fill-edges-requires c κs =
     let p = c .before .before .before .before .before .before .before .before .before .before .before .pre in
-    record { lent = lent-on _ _ _ _ (p .lent) (c .before .before .before .copy-cells .ensures .1); numbers = record { width-is = c .before .before .before .before .before .before .before .width .ensures .0; mask-is = c .before .before .before .before .before .before .label-mask .ensures .0 }; marked = p .marked }
+    (record { lent = lent-on _ _ _ _ (p .lent) (c .before .before .before .copy-cells .ensures .1); numbers = record { width-is = c .before .before .before .before .before .before .before .width .ensures .0; mask-is = c .before .before .before .before .before .before .label-mask .ensures .0 }; marked = p .marked }, p .horizon-is)
 
 horizon-at-requires : tie.Need-horizon-at-requires
 horizon-at-requires c κs =
@@ -61,7 +61,7 @@ horizon-at-requires c κs =
 fill-links-requires : tie.Need-fill-links-requires
 fill-links-requires c κs =
     let p = c .before .before .before .before .before .before .before .before .before .before .before .before .before .before .before .before .before .before .before .pre in
-    (record { lent = lent-on _ _ _ _ (p .lent) (c .before .before .before .horizon-at .ensures .1 ∙ c .before .before .before .before .before .before .before .fill-edges .ensures .1 ∙ c .before .before .before .before .before .before .before .before .before .before .before .copy-cells .ensures .1); numbers = record { width-is = c .before .before .before .before .before .before .before .before .before .before .before .before .before .before .before .width .ensures .0; mask-is = c .before .before .before .before .before .before .before .before .before .before .before .before .before .before .label-mask .ensures .0 }; marked = p .marked }, p .point-in)
+    ((record { lent = lent-on _ _ _ _ (p .lent) (c .before .before .before .horizon-at .ensures .1 ∙ c .before .before .before .before .before .before .before .fill-edges .ensures .1 ∙ c .before .before .before .before .before .before .before .before .before .before .before .copy-cells .ensures .1); numbers = record { width-is = c .before .before .before .before .before .before .before .before .before .before .before .before .before .before .before .width .ensures .0; mask-is = c .before .before .before .before .before .before .before .before .before .before .before .before .before .before .label-mask .ensures .0 }; marked = p .marked }, p .horizon-is), p .point-in)
 
 fill-propositions-requires : tie.Need-fill-propositions-requires
 fill-propositions-requires c κs =

@@ -1,26 +1,23 @@
--- The edge's number fits a byte.
-use denote.Ref.{now}
-use Rattle.plan.proofs.Ranges.{edge-byte}
+-- The row is what the edge says.
+use mathlib.Core.Path.{_≡_, refl, ap}
+use Prim.Native.Nat.{_<_}
+use Rattle.plan.specs.Plan.{Plan}
+use Rattle.rules.specs.declared.Edge.{Edge}
+use Rattle.rules.specs.declared.Constraint.{Constraint}
+use Rattle.rules.specs.Rules.{constraintOf}
+use Rattle.rules_fill.specs.Rows.{EdgeRow}
 use borrow.Author.Needs.{needs}
 use Rattle.rules_fill.proofs.rows.edge_row.Statement.{statement}
 use Rattle.rules_fill.proofs.rows.edge_row.Tie as tie
 
-edge-to-requires : tie.Need-edge-to-requires
-edge-to-requires c κs = edge-byte (now (c .before .args .plan)) (c .before .pre .0) _ (c .before .pre .1)
+row-is : (P : Plan) (e : Edge) (c : Constraint) → c ≡ constraintOf P e → c .down < 65536 → EdgeRow P e (record { from = c .to; avoid = 0; add = c .label; up = c .up; down = c .down })
+row-is P e c q h = record { from-is = ap (λ (d : Constraint). d .to) q; avoid-is = refl; add-is = ap (λ (d : Constraint). d .label) q; up-is = ap (λ (d : Constraint). d .up) q; down-is = ap (λ (d : Constraint). d .down) q; down-small = h }
 
-edge-label-requires : tie.Need-edge-label-requires
-edge-label-requires c κs = edge-byte (now (c .before .before .args .plan)) (c .before .before .pre .0) _ (c .before .before .pre .1)
-
-edge-up-requires : tie.Need-edge-up-requires
-edge-up-requires c κs = edge-byte (now (c .before .before .before .args .plan)) (c .before .before .before .pre .0) _ (c .before .before .before .pre .1)
-
-edge-down-requires : tie.Need-edge-down-requires
-edge-down-requires c κs = edge-byte (now (c .before .before .before .before .args .plan)) (c .before .before .before .before .pre .0) _ (c .before .before .before .before .pre .1)
+constraint-of-requires : tie.Need-constraint-of-requires
+constraint-of-requires c κs = search needs
 
 returns : tie.Need-returns
-returns c = search needs
+returns c = row-is _ _ _ (c .constraint-of .ensures .0) (c .constraint-of .ensures .1 .1)
 
 pub edge-row-spec : {M : Type 1} → statement M
-edge-row-spec =
-    tie.close
-    (tie.spec edge-to-requires edge-label-requires edge-up-requires edge-down-requires returns)
+edge-row-spec = tie.close (tie.spec constraint-of-requires returns)

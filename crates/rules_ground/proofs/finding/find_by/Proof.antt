@@ -16,7 +16,7 @@ abbrev μ-loop : tie.MeasureT-loop
 μ-loop plan marks table s by x lo hi c₀ c = hi - c
 
 points-of-requires : tie.Need-points-of-requires Inv-loop μ-loop
-points-of-requires c κs = let p = c .before .before .pre in (p .0 .accepted, p .1)
+points-of-requires c κs = let p = c .before .before .pre in (p .0 .accepted, p .1, p .0 .horizon-is)
 
 returns : tie.Need-returns Inv-loop μ-loop
 returns c =

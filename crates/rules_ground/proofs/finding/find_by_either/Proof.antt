@@ -1,8 +1,8 @@
--- `rules_ground::finding::find_by_proposition` meets its contract: where neither of the proposition's two rules gives the line, the proposition does not.
+-- `rules_ground::finding::find_by_either` meets its contract: where neither of the two rules gives the line, there is nothing.
 use borrow.Author.Needs.{needs}
 use Rattle.rules_ground.proofs.AnswerLaws.{found, not-found, or-answers}
-use Rattle.rules_ground.proofs.finding.find_by_proposition.Statement.{statement}
-use Rattle.rules_ground.proofs.finding.find_by_proposition.Tie as tie
+use Rattle.rules_ground.proofs.finding.find_by_either.Statement.{statement}
+use Rattle.rules_ground.proofs.finding.find_by_either.Tie as tie
 
 find-by-requires : tie.Need-find-by-requires
 find-by-requires c κs = search needs
@@ -18,9 +18,9 @@ find-by-requires-2 c κs = search needs
 
 returns-2 : tie.Need-returns-2
 returns-2 c =
-    let own = not-found _ _ (c .before .before .is-found .ensures) (c .before .if1 .left) (c .before .before .before .find-by .ensures) in
-    or-answers _ own (c .find-by2 .ensures)
+    let neither = not-found _ _ (c .before .before .is-found .ensures) (c .before .if1 .left) (c .before .before .before .find-by .ensures) in
+    or-answers _ neither (c .find-by2 .ensures)
 
-pub find-by-proposition-spec : {M : Type 1} → statement M
-find-by-proposition-spec =
+pub find-by-either-spec : {M : Type 1} → statement M
+find-by-either-spec =
     tie.close (tie.spec find-by-requires is-found-requires returns find-by-requires-2 returns-2)
