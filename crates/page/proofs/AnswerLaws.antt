@@ -8,16 +8,17 @@ use native.Mathlib.Omega.{arith}
 use lib.ListN.{length, getD, drop}
 use lib.Seq.{sets-eq}
 use borrow.Author.Tests.{lt-ltb, le-ltb, le-leb, eq-eqb, ne-eqb}
+use Rattle.plan.specs.Counting.{count}
 use Rattle.plan.specs.Plan.{cells}
 use Rattle.plan.specs.Layout.{planOf}
 use Rattle.plan.specs.Refusal.{every, refusal, Accepted}
+use Rattle.plan.proofs.CountLaws.{count-few}
 use Rattle.plan.proofs.Ranges.{accepted-bounded}
 use Rattle.text.specs.Buffer.{TextPut}
-use Rattle.page.specs.Columns.{count}
 use Rattle.page.specs.Page.{above, mostPrinted, waitFits, pageOf, PageOutcome, printed, refused, pageOutcome, pageOutput}
 use Rattle.page.specs.AfterPage.{AfterPage}
 use Rattle.page.specs.Lent.{Printable}
-use Rattle.page.proofs.PageLaws.{count-few, fixed-columns}
+use Rattle.page.proofs.PageLaws.{fixed-columns}
 
 abbrev refuses : PageOutcome → Bool
 refuses (printed n) = false

@@ -3,12 +3,13 @@ use mathlib.Core.Path.{_≡_, refl}
 use mathlib.Core.List.{List, [], _∷_}
 use Prim.Native.Nat.{ℕ}
 use Rattle.plan.specs.Bytes.{byteAt}
+use Rattle.plan.specs.Counting.{count}
 use Rattle.plan.specs.Label.{digit}
 use Rattle.plan.specs.LinkSet.{contains}
 use Rattle.plan.specs.Layout.{planOf}
 use Rattle.text.specs.Decimal.{digits, decimal}
 use Rattle.text.specs.Joined.{joined}
-use Rattle.page.specs.Columns.{count, rightAligned, linkColumn, sign, propositionColumn, linksIn, middleColumns, columns}
+use Rattle.page.specs.Columns.{rightAligned, linkColumn, sign, propositionColumn, linksIn, middleColumns, columns}
 use Rattle.page.specs.Page.{above, cellText, pageOf}
 
 -- point 31 under links 0 and 2, with proposition 0 yes, 1 no and 2 unknown: `31 0.2. +-?. 2 999999`

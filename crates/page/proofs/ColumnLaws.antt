@@ -5,10 +5,11 @@ use Prim.Native.Nat.{ℕ, _+_, _<_}
 use lib.Count.{onesIn, ones}
 use lib.Dec.{T as Is, eqb, eqb→eq}
 use borrow.Author.Tests.{eq-eqb, ne-eqb}
+use Rattle.plan.specs.Counting.{count}
 use Rattle.plan.specs.LinkSet.{contains}
 use Rattle.plan.specs.Refusal.{every}
 use Rattle.plan.proofs.Ranges.{every-at}
-use Rattle.page.specs.Columns.{count, linkColumn, sign, linksIn}
+use Rattle.page.specs.Columns.{linkColumn, sign, linksIn}
 
 -- ---- the number of links, by one test of all 16 sets
 tested : Is (every (λ s. eqb (ones s) (linksIn s)) 16)

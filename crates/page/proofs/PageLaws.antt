@@ -7,15 +7,17 @@ use native.Mathlib.Numerals.{add-one}
 use native.Mathlib.Omega.{arith}
 use lib.ListN.{length, getD, length-append}
 use borrow.Author.Tests.{lt-ltb, le-ltb}
+use Rattle.plan.specs.Counting.{count}
 use Rattle.plan.specs.Plan.{Plan, cells}
 use Rattle.plan.specs.Layout.{planOf}
+use Rattle.plan.proofs.CountLaws.{count-few}
 use Rattle.plan.proofs.Ranges.{accepted-bounded}
 use Rattle.rules.specs.declared.Line.{Line}
 use Rattle.rules.specs.Lines.{lineAt}
 use Rattle.text.specs.Joined.{joined}
 use Rattle.text.specs.Buffer.{TextFits, TextPut}
 use Rattle.text.proofs.Puts.{put-none}
-use Rattle.page.specs.Columns.{count, columns}
+use Rattle.page.specs.Columns.{columns}
 use Rattle.page.specs.Page.{above, cellText, pageOf}
 use Rattle.page.specs.AfterPage.{FixedColumns}
 use Rattle.page.specs.Lent.{LineFits, Printable}
@@ -47,15 +49,6 @@ count-yes f n e = rw e refl
 count-no : (f : ℕ → Bool) (n : ℕ) → f n ≡ false → count f (suc n) ≡ count f n
 unfolding count
 count-no f n e = rw e (omega arith)
-
-pub count-few : (f : ℕ → Bool) (n : ℕ) → count f n ≤ n
-unfolding count
-count-few f zero = omega arith
-count-few f (suc n) = go (f n) (count-few f n)
-  where
-    go : (b : Bool) → count f n ≤ n → count f n + cond b 1 0 ≤ suc n
-    go true h = omega arith
-    go false h = omega arith
 
 -- the cells below c of the first n are counted
 pub record Counted (T : List ℕ) (n lines c : ℕ) : Type 0 where

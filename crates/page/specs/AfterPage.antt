@@ -3,11 +3,12 @@ use mathlib.Core.Path.{_≡_}
 use mathlib.Core.List.{List}
 use Prim.Native.Nat.{ℕ, _*_, _<_}
 use lib.ListN.{length}
+use Rattle.plan.specs.Counting.{count}
 use Rattle.plan.specs.Moments.{Moments}
 use Rattle.plan.specs.Plan.{Plan, cells}
 use Rattle.plan.specs.Layout.{planOf}
 use Rattle.rules.specs.Lines.{lineAt}
-use Rattle.page.specs.Columns.{count, columns}
+use Rattle.page.specs.Columns.{columns}
 use Rattle.page.specs.Page.{above, pageOf, PageOutcome, printed, pageOutcome, pageOutput}
 
 -- 18.9: every line has 22 bytes, and the page 22 for each cell above 0

@@ -4,15 +4,11 @@ use mathlib.Core.List.{List, [], _∷_, _++_}
 use Prim.Native.Nat.{ℕ, zero, suc, _+_, _-_}
 use lib.Dec.{eqb}
 use lib.ListN.{length, replicate}
+use Rattle.plan.specs.Counting.{count}
 use Rattle.plan.specs.Label.{digit}
 use Rattle.plan.specs.LinkSet.{contains}
 use Rattle.rules.specs.declared.Line.{Line}
 use Rattle.text.specs.Decimal.{decimal}
-
--- how many numbers below n pass a test
-unfoldable pub count : (ℕ → Bool) → ℕ → ℕ
-count f zero = 0
-count f (suc n) = count f n + cond (f n) 1 0
 
 -- 18.3: a number right-aligned in w columns: blanks, and its decimal
 unfoldable pub rightAligned : ℕ → ℕ → List ℕ

@@ -6,9 +6,9 @@ use plan_refusal::refusal;
 ghost use mathlib.Core.Path.{_≡_};
 ghost use Prim.Native.Nat.{_≤_};
 ghost use lib.ListN.{length};
+ghost use Rattle.plan.specs.Counting.{count};
 ghost use Rattle.plan.specs.Moments.{before, moments};
 ghost use Rattle.plan.specs.Refusal.{every};
-ghost use Rattle.page.specs.Columns.{count};
 ghost use Rattle.page.specs.Page.{above, waitFits, outcomeOf};
 ghost use Rattle.page.specs.AfterPage.{AfterPage};
 

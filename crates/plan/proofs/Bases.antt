@@ -53,3 +53,8 @@ module _ (b : ℕ) (two : 1 < b) where
   others a (suc j) (suc k) n =
       ap (λ (x : ℕ). digitOf x (suc k)) (without-up a j) ∙ higher-digit (a % b) (without (a / b) j) k (mod-lt a (omega arith))
       ∙ others (a / b) j k (λ e. n (ap suc e)) ∙ sym (digit-up a k)
+
+  -- the digit itself goes
+  pub itself : (a j : ℕ) → digitOf (without a j) j ≡ 0
+  itself a zero = ap (λ (x : ℕ). digitOf x 0) (without-zero a) ∙ lowest-digit 0 (a / b) (omega arith)
+  itself a (suc j) = ap (λ (x : ℕ). digitOf x (suc j)) (without-up a j) ∙ higher-digit (a % b) (without (a / b) j) j (mod-lt a (omega arith)) ∙ itself (a / b) j

@@ -1,19 +1,19 @@
 -- Digits of joined labels, of labels with a digit cleared and of plain labels, and the links of sets that a rule makes.
-use mathlib.Core.Path.{_≡_, refl, sym, ap, ap₂, _∙_}
+use mathlib.Core.Path.{_≡_, refl, sym, ap, ap₂, subst, _∙_}
 use mathlib.Core.Bool.{Bool, true, false, cond, not}
 use mathlib.Core.Logic.{_⊎_, inl, inr}
-use Prim.Native.Nat.{ℕ, zero, suc, _-_, _*_, _/_, _%_, _^_, _<_}
-use native.Mathlib.Nat.{mod-lt, one-mul}
+use Prim.Native.Nat.{ℕ, zero, suc, _-_, _*_, _/_, _%_, _^_, _≤_, _<_}
+use native.Mathlib.Nat.{pow-succ', mod-lt, one-mul, zero-div}
 use native.Mathlib.Decide.{ℕ-discrete}
 use native.Mathlib.Omega.{arith}
-use lib.Dec.{T as Is, eqb, lit<, T-not, eqb→eq}
-use lib.Pow.{shl-shr}
+use lib.Dec.{T as Is, eqb, lit<, T-not, not-T, eqb→eq}
+use lib.Pow.{pow-lt, shl-shr}
 use borrow.Author.Tests.{eqb-true, eq-eqb, ne-eqb}
-use lib.Ieee.Fits.{and-l, and-r, eq→eqb}
-use lib.Bits.{bitOr, or-shr, or-mod, or-comm}
+use lib.Ieee.Fits.{and-l, and-r, and-i, eq→eqb}
+use lib.Bits.{bitOr, or-shr, or-mod, or-comm, or-lt}
 use Rattle.plan.specs.Label.{digit, joinDigit, join, plain, clearDigit}
 use Rattle.plan.specs.LinkSet.{contains, union, insert, remove}
-use Rattle.plan.proofs.Bases.{digitOf, digit-zero, digit-up, lowest-digit, higher-digit, without, others}
+use Rattle.plan.proofs.Bases.{digitOf, digit-zero, digit-up, lowest-digit, higher-digit, without, others, itself}
 use Rattle.plan.proofs.LabelLaws.{join-digit-lt}
 
 -- ---- digits of labels
@@ -25,10 +25,14 @@ pub clear-other : (a j k : ℕ) → (k ≡ j → ⊥) → digit (clearDigit a j)
 unfolding digit clearDigit digitOf without
 clear-other a j k n = others 4 (lit< tt) a j k n
 
+pub clear-same : (a j : ℕ) → digit (clearDigit a j) j ≡ 0
+unfolding digit clearDigit digitOf without
+clear-same a j = itself 4 (lit< tt) a j
+
 join-low : (a b : ℕ) → joinDigit (a % 4) (b % 4) < 4
 join-low a b = join-digit-lt (a % 4) (b % 4) (mod-lt a (lit< tt)) (mod-lt b (lit< tt))
 
-digit-join : (p a b j : ℕ) → j < p → digit (join p a b) j ≡ joinDigit (digit a j) (digit b j)
+pub digit-join : (p a b j : ℕ) → j < p → digit (join p a b) j ≡ joinDigit (digit a j) (digit b j)
 unfolding join digit digitOf
 digit-join zero a b j h = absurd (omega arith)
 digit-join (suc p) a b zero h =
@@ -67,6 +71,15 @@ plain-known zero a j t h e = omega arith
 plain-known (suc p) a zero t h e = T-not (eqb (a % 4) 3) (and-l (not (eqb (a % 4) 3)) (plain p (a / 4)) t) (eq→eqb (sym (digit-zero 4 (lit< tt) a) ∙ e))
 plain-known (suc p) a (suc j) t h e = plain-known p (a / 4) j (and-r (not (eqb (a % 4) 3)) (plain p (a / 4)) t) (omega arith) (sym (digit-up 4 (lit< tt) a j) ∙ e)
 
+-- a label none of whose digits is unknown is plain
+pub plain-of : (p a : ℕ) → ((j : ℕ) → j < p → digit a j ≡ 3 → ⊥) → Is (plain p a)
+unfolding plain digit digitOf
+plain-of zero a f = tt
+plain-of (suc p) a f =
+    and-i (not (eqb (a % 4) 3)) (plain p (a / 4))
+    (not-T (eqb (a % 4) 3) (λ t. f 0 (omega arith) (digit-zero 4 (lit< tt) a ∙ eqb→eq _ _ t)))
+    (plain-of p (a / 4) (λ j h e. f (suc j) (omega arith) (digit-up 4 (lit< tt) a j ∙ e)))
+
 -- ---- links of sets
 bit-or : (x : ℕ) → x < 2 → bitOr 1 x ≡ 1
 bit-or zero h = refl
@@ -91,14 +104,87 @@ pub in-insert : (s i k : ℕ) → Is (contains s k) → Is (contains (insert s i
 unfolding insert
 in-insert s i k h = in-left s (2 ^ i) k h
 
+-- to take a link out is to clear its binary digit
+remove-digit : (s i : ℕ) → contains s i ≡ true → s - 2 ^ i ≡ without 2 (lit< tt) s i
+unfolding contains without digitOf
+remove-digit s i e = sym (ap (λ (x : ℕ). s - x * 2 ^ i) (eqb-true (s / 2 ^ i % 2) 1 e) ∙ ap (λ (x : ℕ). s - x) (one-mul (2 ^ i)))
+
 pub in-remove : (s i k : ℕ) → (k ≡ i → ⊥) → Is (contains s k) → Is (contains (remove s i) k)
-unfolding remove contains without digitOf
+unfolding remove contains digitOf
 in-remove s i k n h = go (contains s i) refl
   where
     go : (b : Bool) → contains s i ≡ b → Is (contains (cond b (s - 2 ^ i) s) k)
     go false e = h
-    go true e =
-        let one : s / 2 ^ i % 2 ≡ 1 = eqb-true (s / 2 ^ i % 2) 1 e in
-        let f : without 2 (lit< tt) s i ≡ s - 2 ^ i = ap (λ (x : ℕ). s - x * 2 ^ i) one ∙ ap (λ (x : ℕ). s - x) (one-mul (2 ^ i)) in
-        let g : digitOf 2 (lit< tt) (s - 2 ^ i) k ≡ digitOf 2 (lit< tt) s k = ap (λ (x : ℕ). digitOf 2 (lit< tt) x k) (sym f) ∙ others 2 (lit< tt) s i k n in
-        eq→eqb (g ∙ eqb→eq _ _ h)
+    go true e = eq→eqb (ap (λ (x : ℕ). digitOf 2 (lit< tt) x k) (remove-digit s i e) ∙ others 2 (lit< tt) s i k n ∙ eqb→eq _ _ h)
+
+-- ---- where a link of such a set comes from
+or-bit : (x y : ℕ) → x < 2 → y < 2 → bitOr x y ≡ 1 → (x ≡ 1) ⊎ (y ≡ 1)
+or-bit zero zero h k e = absurd (omega arith)
+or-bit zero (suc zero) h k e = inr refl
+or-bit zero (suc (suc y)) h k e = absurd (omega arith)
+or-bit (suc zero) y h k e = inl refl
+or-bit (suc (suc x)) y h k e = absurd (omega arith)
+
+pub of-union : (s t i : ℕ) → Is (contains (union s t) i) → Is (contains s i) ⊎ Is (contains t i)
+unfolding contains union
+of-union s t i h = go (or-bit (s / 2 ^ i % 2) (t / 2 ^ i % 2) (mod-lt _ (lit< tt)) (mod-lt _ (lit< tt)) (sym (ap (λ (x : ℕ). x % 2) (or-shr s t i) ∙ or-mod (s / 2 ^ i) (t / 2 ^ i) 1) ∙ eqb→eq _ _ h))
+  where
+    go : (s / 2 ^ i % 2 ≡ 1) ⊎ (t / 2 ^ i % 2 ≡ 1) → Is (eqb (s / 2 ^ i % 2) 1) ⊎ Is (eqb (t / 2 ^ i % 2) 1)
+    go (inl e) = inl (eq→eqb e)
+    go (inr e) = inr (eq→eqb e)
+
+none-digit : (k : ℕ) → digitOf 2 (lit< tt) 0 k ≡ 0
+unfolding digitOf
+none-digit k = rw (zero-div (2 ^ k))
+
+-- a power of 2 has one bit
+power-digit : (i k : ℕ) → digitOf 2 (lit< tt) (2 ^ i) k ≡ 1 → k ≡ i
+power-digit zero zero e = refl
+power-digit zero (suc k) e = absurd (omega (arith, digit-up 2 (lit< tt) 1 k, none-digit k, e))
+power-digit (suc i) zero e = let f : 2 ^ suc i ≡ 2 * 2 ^ i = pow-succ' 2 i in absurd (omega (arith, digit-zero 2 (lit< tt) (2 ^ suc i), e, f))
+power-digit (suc i) (suc k) e =
+    let f : 2 ^ suc i / 2 ≡ 2 ^ i = omega (arith, pow-succ' 2 i) in
+    ap suc (power-digit i k (sym (ap (λ (x : ℕ). digitOf 2 (lit< tt) x k) f) ∙ sym (digit-up 2 (lit< tt) (2 ^ suc i) k) ∙ e))
+
+pub of-insert : (s i k : ℕ) → Is (contains (insert s i) k) → Is (contains s k) ⊎ (k ≡ i)
+unfolding insert contains digitOf
+of-insert s i k h = go (of-union s (2 ^ i) k h)
+  where
+    go : Is (contains s k) ⊎ Is (contains (2 ^ i) k) → Is (contains s k) ⊎ (k ≡ i)
+    go (inl t) = inl t
+    go (inr t) = inr (power-digit i k (eqb→eq _ _ t))
+
+pub remove-own-not : (s i : ℕ) → Is (contains (remove s i) i) → ⊥
+unfolding remove contains digitOf
+remove-own-not s i h = go (contains s i) refl h
+  where
+    go : (b : Bool) → contains s i ≡ b → Is (contains (cond b (s - 2 ^ i) s) i) → ⊥
+    go false e t = subst (λ (x : Bool). Is x) e t
+    go true e t = omega (arith, eqb→eq (digitOf 2 (lit< tt) (s - 2 ^ i) i) 1 t, ap (λ (x : ℕ). digitOf 2 (lit< tt) x i) (remove-digit s i e), itself 2 (lit< tt) s i)
+
+pub of-remove : (s i k : ℕ) → Is (contains (remove s i) k) → Is (contains s k) × (k ≡ i → ⊥)
+unfolding remove contains digitOf
+of-remove s i k h = (go (contains s i) refl h, n)
+  where
+    n : k ≡ i → ⊥
+    n q = remove-own-not s i (subst (λ (x : ℕ). Is (contains (remove s i) x)) q h)
+
+    go : (b : Bool) → contains s i ≡ b → Is (contains (cond b (s - 2 ^ i) s) k) → Is (contains s k)
+    go false e t = t
+    go true e t = eq→eqb (sym (ap (λ (x : ℕ). digitOf 2 (lit< tt) x k) (remove-digit s i e) ∙ others 2 (lit< tt) s i k n) ∙ eqb→eq _ _ t)
+
+-- ---- the sets of k links are the numbers below 2 ^ k
+pub insert-in : (k s i : ℕ) → s < 2 ^ k → i < k → insert s i < 2 ^ k
+unfolding insert union
+insert-in k s i h l = or-lt k s (2 ^ i) h (pow-lt l)
+
+pub remove-le : (s i : ℕ) → remove s i ≤ s
+unfolding remove
+remove-le s i = go (contains s i)
+  where
+    go : (b : Bool) → cond b (s - 2 ^ i) s ≤ s
+    go true = omega arith
+    go false = omega arith
+
+pub remove-in : (k s i : ℕ) → s < 2 ^ k → remove s i < 2 ^ k
+remove-in k s i h = omega (arith, remove-le s i)

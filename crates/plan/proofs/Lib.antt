@@ -1,4 +1,5 @@
 mod Bases
+pub mod CountLaws
 pub mod LabelLaws
 pub mod Digits
 pub mod Places

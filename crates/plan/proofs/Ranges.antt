@@ -1,21 +1,21 @@
 -- What code and rules need of a plan, and: an accepted plan has it.
-use mathlib.Core.Path.{_≡_, refl}
+use mathlib.Core.Path.{_≡_, refl, sym}
 use mathlib.Core.Bool.{Bool, true, false, cond, not}
 use mathlib.Core.List.{List}
 use Prim.Native.Nat.{ℕ, zero, suc, _*_, _^_, _≤_, _<_, max}
 use native.Mathlib.Nat.{le-refl, le-trans, mul-le-mul, le-max-left, le-max-right}
-use native.Mathlib.Decide.{ℕ-discrete}
+use native.Mathlib.Decide.{ℕ-discrete, decLt}
 use native.Mathlib.Omega.{arith}
-use lib.Dec.{T as Is, ltb, eqb, ltb→lt, leb→le, eqb→eq}
-use lib.Ieee.Fits.{and-l, and-r}
+use lib.Dec.{T as Is, ltb, eqb, T-not, ltb→lt, leb→le, eqb→eq}
+use lib.Ieee.Fits.{and-l, and-r, eq→eqb}
 use lib.ListN.{length}
 use Rattle.plan.specs.Label.{plain}
 use Rattle.plan.specs.Plan.{Plan, cells}
 use Rattle.plan.specs.Layout.{planOf, greatest, mostAt, downAt, largestOf, lengthFor}
-use Rattle.plan.specs.Refusal.{every, sizesFit, observerFits, linkEndsFit, mostSeconds, durationFits, linkFits, edgeEndsFit, labelFits, edgeFits, refusalOf, refusal, Accepted}
+use Rattle.plan.specs.Refusal.{every, differs, sizesFit, observerFits, linkEndsFit, mostSeconds, durationFits, linkFits, edgeEndsFit, labelFits, edgeFits, refusalOf, refusal, Accepted}
 
 -- of any plan, also of one that no bytes stand for: rows lie among the points, durations are ordered, M bounds what a rule adds to a wait,
--- and the horizon is n × M or more
+-- the horizon is n × M or more, no two propositions have one observing point, no two links one end, and no end observes
 pub record WellFormed (P : Plan) : Type 0 where
   pub two : 1 < P .points
   pub observer-in : (j : ℕ) → j < P .propositions → (0 < P .observer j) × (P .observer j < P .points)
@@ -29,6 +29,9 @@ pub record WellFormed (P : Plan) : Type 0 where
   pub most-le : (i : ℕ) → i < P .links → P .most i ≤ P .largest
   pub down-le : (i : ℕ) → i < P .edges → P .down i ≤ P .largest
   pub horizon-far : P .points * P .largest ≤ P .horizon
+  pub observer-once : (i j : ℕ) → i < P .propositions → j < P .propositions → P .observer i ≡ P .observer j → i ≡ j
+  pub finish-once : (i j : ℕ) → i < P .links → j < P .links → P .finish i ≡ P .finish j → i ≡ j
+  pub finish-observes-none : (i j : ℕ) → i < P .links → j < P .propositions → P .finish i ≡ P .observer j → ⊥
 
 -- the bounds (4.2, 4.4, 4.5) that the code's numbers rest on
 pub record Bounded (P : Plan) : Type 0 where
@@ -51,6 +54,19 @@ every-at f (suc n) i t h = go (every-at f n i (and-l (every f n) (f n) t)) (ℕ-
     go r (yes e) = rw e (and-r (every f n) (f n) t)
     go r (no e) = r (omega arith)
 
+pub differs-at : (f : ℕ → ℕ) (x n i : ℕ) → Is (differs f x n) → i < n → f i ≡ x → ⊥
+unfolding differs
+differs-at f x n i t h e = T-not (eqb (f i) x) (every-at (λ i. not (eqb (f i) x)) n i t h) (eq→eqb e)
+
+-- no two of the first n numbers of f are equal, if each differs from those before it
+once : (f : ℕ → ℕ) (n : ℕ) → ((i : ℕ) → i < n → Is (differs f (f i) i)) → (i j : ℕ) → i < n → j < n → f i ≡ f j → i ≡ j
+once f n d i j h k e = go (decLt i j) (decLt j i)
+  where
+    go : Dec (i < j) → Dec (j < i) → i ≡ j
+    go (yes a) b = absurd (differs-at f (f j) j i (d j k) a e)
+    go (no a) (yes b) = absurd (differs-at f (f i) i j (d i h) b (sym e))
+    go (no a) (no b) = omega arith
+
 past : (b : Bool) (k n : ℕ) → cond b (suc k) n ≡ 0 → n ≡ 0
 past true k n e = absurd (omega arith)
 past false k n e = e
@@ -60,7 +76,7 @@ unless true k n e = (tt, e)
 unless false k n e = absurd (omega arith)
 
 -- ---- the largest of some numbers
-greatest-ge : (f : ℕ → ℕ) (n i : ℕ) → i < n → f i ≤ greatest f n
+pub greatest-ge : (f : ℕ → ℕ) (n i : ℕ) → i < n → f i ≤ greatest f n
 unfolding greatest
 greatest-ge f zero i h = absurd (omega arith)
 greatest-ge f (suc n) i h = go (greatest-ge f n i) (ℕ-discrete i n)
@@ -120,9 +136,15 @@ module _ (bs : List ℕ) (P : Plan) (j : Judged bs P) where
       let t = every-at (observerFits P) (P .propositions) i (j .observers) h in
       (ltb→lt 0 (P .observer i) (search (and-l, and-r)), ltb→lt (P .observer i) (P .points) (search (and-l, and-r)))
 
+  observer-differs : (i : ℕ) → i < P .propositions → Is (differs (P .observer) (P .observer i) i)
+  unfolding observerFits
+  observer-differs i h = let t = every-at (observerFits P) (P .propositions) i (j .observers) h in search (and-l, and-r)
+
   record LinkFit (i : ℕ) : Type 0 where
     activation-fit : P .activation i < P .points
     finish-fit : (0 < P .finish i) × (P .finish i < P .points)
+    finish-differs : Is (differs (P .finish) (P .finish i) i)
+    finish-unobserved : Is (differs (P .observer) (P .finish i) (P .propositions))
     durations-fit : (0 < P .least i) × (P .least i < P .most i)
     most-fit : P .most i ≤ mostSeconds
 
@@ -133,6 +155,8 @@ module _ (bs : List ℕ) (P : Plan) (j : Judged bs P) where
       record {
         activation-fit = ltb→lt (P .activation i) (P .points) (search (and-l, and-r) depth 9);
         finish-fit = (ltb→lt 0 (P .finish i) (search (and-l, and-r) depth 9), ltb→lt (P .finish i) (P .points) (search (and-l, and-r) depth 9));
+        finish-differs = search (and-l, and-r) depth 9;
+        finish-unobserved = search (and-l, and-r) depth 9;
         durations-fit = (ltb→lt 0 (P .least i) (search (and-l, and-r) depth 9), ltb→lt (P .least i) (P .most i) (search (and-l, and-r) depth 9));
         most-fit = leb→le (P .most i) mostSeconds (search (and-l, and-r) depth 9);
       }
@@ -198,6 +222,9 @@ module _ (bs : List ℕ) where
       most-le = most-under;
       down-le = down-under;
       horizon-far = rw horizon-is (le-refl _);
+      observer-once = once (planOf bs .observer) _ (observer-differs bs (planOf bs) fit);
+      finish-once = once (planOf bs .finish) _ (λ i h. link-fit bs (planOf bs) fit i h .finish-differs);
+      finish-observes-none = λ i j h k e. differs-at (planOf bs .observer) (planOf bs .finish i) _ j (link-fit bs (planOf bs) fit i h .finish-unobserved) k (sym e);
     }
 
     largest-fit : planOf bs .largest ≤ mostSeconds

@@ -1,16 +1,17 @@
 -- Whatever the rules give lies in the table and waits longer than 0, and a parent with a link or a digit is no starting line.
 use mathlib.Core.Path.{subst}
-use mathlib.Core.Bool.{Bool, true, false, cond, not}
+use mathlib.Core.Bool.{not}
 use mathlib.Core.Logic.{inl, inr}
-use Prim.Native.Nat.{ℕ, _-_, _/_, _%_, _^_, _≤_, _<_, suc-le-suc}
-use native.Mathlib.Nat.{zero-div, le-trans}
+use Prim.Native.Nat.{ℕ, _/_, _%_, _^_, _≤_, _<_}
+use native.Mathlib.Nat.{zero-div}
 use native.Mathlib.Omega.{arith}
 use lib.Dec.{T as Is, eqb, T-not, eqb→eq}
 use lib.Bits.{or-lt}
-use lib.Pow.{pow-pos, pow-lt}
+use lib.Pow.{pow-pos}
 use Rattle.plan.specs.Label.{digit}
-use Rattle.plan.specs.LinkSet.{contains, union, insert, remove}
+use Rattle.plan.specs.LinkSet.{contains, union}
 use Rattle.plan.specs.Plan.{Plan}
+use Rattle.plan.proofs.Digits.{insert-in, remove-in}
 use Rattle.plan.proofs.LabelLaws.{four-pos, clear-le, digit-none, join-lt}
 use Rattle.plan.proofs.Ranges.{WellFormed}
 use Rattle.rules.specs.declared.Line.{Line}
@@ -35,14 +36,6 @@ pub record ConstraintIn (P : Plan) (c : Constraint) : Type 0 where
   pub label-in : c .label < 4 ^ P .propositions
   pub down-le : c .down ≤ P .largest
 
-remove-le : (s i : ℕ) → remove s i ≤ s
-unfolding remove
-remove-le s i = go (contains s i)
-  where
-    go : (b : Bool) → cond b (s - 2 ^ i) s ≤ s
-    go true = omega arith
-    go false = omega arith
-
 module _ (P : Plan) (wf : WellFormed P) where
   pub edge-range : (e : Edge) → InPlan P (Propagation e) → ConstraintIn P (constraintOf P e)
   edge-range (PlanEdge i) h = record { from-in = wf .from-in i h; to-in = wf .to-in i h; label-in = wf .label-in i h; down-le = wf .down-le i h }
@@ -51,11 +44,11 @@ module _ (P : Plan) (wf : WellFormed P) where
   edge-range (LowerBound i) h = record { from-in = wf .finish-in i h .1; to-in = wf .activation-in i h; label-in = four-pos _; down-le = omega (arith, wf .durations i h, wf .most-le i h) }
 
   pub result-range : (r : Rule) → InPlan P r → (l m : Line) → InRange P l → InRange P m → InRange P (result P r l m)
-  unfolding union insert
+  unfolding union
   result-range (Propagation e) h l m a b = record { point-in = edge-range e h .from-in; set-in = a .set-in; label-in = join-lt _ _ _ }
   result-range (LowerCase i) h l m a b = record { point-in = wf .activation-in i h; set-in = a .set-in; label-in = a .label-in }
-  result-range (UpperCase i) h l m a b = record { point-in = wf .finish-in i h .1; set-in = or-lt _ _ _ (a .set-in) (pow-lt h); label-in = a .label-in }
-  result-range (LetterRemoval i) h l m a b = record { point-in = a .point-in; set-in = or-lt _ _ _ (le-trans (suc-le-suc (remove-le (l .set) i)) (a .set-in)) (b .set-in); label-in = join-lt _ _ _ }
+  result-range (UpperCase i) h l m a b = record { point-in = wf .finish-in i h .1; set-in = insert-in _ _ i (a .set-in) h; label-in = a .label-in }
+  result-range (LetterRemoval i) h l m a b = record { point-in = a .point-in; set-in = or-lt _ _ _ (remove-in _ (l .set) i (a .set-in)) (b .set-in); label-in = join-lt _ _ _ }
   result-range (OwnLiteral j) h l m a b = record { point-in = a .point-in; set-in = a .set-in; label-in = omega (arith, a .label-in, clear-le (l .label) j) }
   result-range (LiteralRemoval j) h l m a b = record { point-in = a .point-in; set-in = or-lt _ _ _ (a .set-in) (b .set-in); label-in = join-lt _ _ _ }
 

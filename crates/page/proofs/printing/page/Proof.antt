@@ -12,7 +12,7 @@ use Rattle.plan.specs.Refusal.{every, Accepted}
 use Rattle.plan.proofs.Ranges.{sizes-few, accepted-bounded}
 use Rattle.plan_refusal.proofs.Tests.{denied, granted}
 use Rattle.page.specs.Page.{above, waitFits}
-use Rattle.page.proofs.PageLaws.{count-few}
+use Rattle.plan.proofs.CountLaws.{count-few}
 use Rattle.page.proofs.AnswerLaws.{by-plan, by-table, by-wait, by-room, printable, answered-printed}
 use Rattle.page.proofs.printing.page.Statement.{statement}
 use Rattle.page.proofs.printing.page.Tie as tie
