@@ -22,8 +22,8 @@ use Rattle.rounds.specs.Meaning.{Meaning}
 use Rattle.rounds.specs.AfterCheck.{AfterCheck}
 use Rattle.rounds.specs.Runs.{RoomFrom, Ran}
 use Rattle.rounds.proofs.Stopping.{none-runs}
-use Rattle.rounds.proofs.Small.{table-length, table-high, run-length}
-use Rattle.rounds.proofs.Meanings.{refused-means, means-on, run-means-bytes, decided}
+use Rattle.rounds.proofs.Small.{table-length, table-high}
+use Rattle.rounds.proofs.Meanings.{refused-means, run-means-bytes, decided}
 use Rattle.rounds.proofs.RoundsMade.{front-is, back-is}
 
 module _ (bs F G : List ℕ) (limit : ℕ) where
@@ -156,4 +156,4 @@ module _ (bs : List ℕ) (accepted : Accepted bs) where
 
         means : Meaning P limit o (first .exit) (second .exit)
         means = rw (r .outcome-is ∙ ap (λ (l : List ℕ). runOutcome P l limit) front, table-first, table-second)
-            (means-on P limit (runOutcome P (zeros P) limit) (runTable P (zeros P) limit) (drop (cells P) (first .entry)) (drop (cells P) (second .entry)) (run-length P (accepted-well-formed bs accepted) (zeros P) (length-replicate (cells P) 0) limit) (run-means-bytes bs accepted limit))
+            (run-means-bytes bs accepted limit (drop (cells P) (first .entry)) (drop (cells P) (second .entry)))

@@ -8,3 +8,4 @@ pub mod RoundsMade
 pub mod Checking
 mod Bench
 mod Ramp
+mod RampFollowed

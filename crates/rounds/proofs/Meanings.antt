@@ -1,22 +1,30 @@
 -- What the rounds from zeros answer and leave means what 15 says, of any well-formed plan and of the bytes of any accepted plan; and the limit that serves them all.
 use mathlib.Core.Path.{_≡_, refl, sym, subst, _∙_}
 use mathlib.Core.Bool.{Bool, true, false}
-use mathlib.Core.Logic.{_⊎_, inl, inr}
-use mathlib.Core.List.{List, _++_}
+use mathlib.Core.Logic.{_↔_, _⊎_, inl, inr}
+use mathlib.Core.List.{List, [], _++_}
 use Prim.Native.Nat.{ℕ, zero, suc, _+_, _*_, _≤_, _<_}
 use native.Mathlib.Nat.{mul-le-mul}
 use native.Mathlib.Omega.{arith}
-use lib.ListN.{length, List·getD-append}
+use lib.ListN.{length, getD, length-replicate, List·getD-append}
 use Rattle.plan.specs.Plan.{Plan, cells}
 use Rattle.plan.specs.Layout.{planOf}
 use Rattle.plan.specs.Refusal.{mostSeconds, Accepted}
 use Rattle.plan.proofs.Ranges.{WellFormed, accepted-well-formed, accepted-bounded}
+use Rattle.rules.specs.Derivations.{SelfWait}
 use Rattle.rules.proofs.Next.{IsNext, next-is}
+use Rattle.rules_panel.specs.Dramas.{AnyDuration}
+use Rattle.rules_panel.specs.Strategies.{Panel}
 use Rattle.rules_panel.proofs.Broken.{no-panel}
+use Rattle.rules_panel.proofs.FewerDurations.{none-for-any}
+use Rattle.rules_follow.specs.Following.{State, Followed}
+use Rattle.rules_follow.proofs.TableLines.{Closed}
+use Rattle.rules_follow.proofs.Followed.{FirstFree, closed-on, free-on, followed}
 use Rattle.rounds_tables.proofs.Comparing.{same-eq}
 use Rattle.rounds.specs.Rounds.{tableFrom, zeros, firstAlarmWaits, stopsAt}
 use Rattle.rounds.specs.Outcomes.{Outcome, kept, broken, spent, refused, runOutcome, runTable}
-use Rattle.rounds.specs.Meaning.{IsSpent, enoughRounds, servingLimit, Meaning}
+use Rattle.rounds.specs.Meaning.{IsKept, IsBroken, IsSpent, HoldsLongest, enoughRounds, servingLimit, Meaning}
+use Rattle.rounds.proofs.Small.{run-length}
 use Rattle.rounds.proofs.Stopping.{Running, running-less, tests-fail, one-holds, Stops, stops-or-runs, ends-broken, ends-kept, ends-spent}
 use Rattle.rounds.proofs.Sums.{sum, sum-lt, sum-bound}
 use Rattle.rounds.proofs.Verdict.{Inv, inv-table, self-wait, no-self-wait, holds-longest}
@@ -42,9 +50,22 @@ module _ (P : Plan) (wf : WellFormed P) where
       let b : sum (table r) ≤ cells P * (P .horizon + P .largest) = rw (v .sized) at (sum-bound (table r) (P .horizon + P .largest) (λ c k. v .high c (rw (← (v .sized)) k))) in
       omega (arith, running-sum r g)
 
+  -- the table of a plan that is kept
+  pub record Settled (A : List ℕ) : Type 0 where
+    pub closed : Closed P A
+    pub free : FirstFree P A
+    pub longest : (c : ℕ) → c < cells P → HoldsLongest P c (getD A c 0)
+    pub no-wait : SelfWait P → ⊥
+
+  -- what the rounds from zeros say, from which the rest follows
+  pub record RunSays (limit : ℕ) (o : Outcome) (A : List ℕ) : Type 0 where
+    pub waits : IsBroken o → SelfWait P
+    pub settled : IsKept o → Settled A
+    pub decided : enoughRounds P ≤ limit → IsBroken o ⊎ IsKept o
+
   module _ (limit : ℕ) where
     abbrev RunMeans : Type 0
-    RunMeans = Meaning P limit (runOutcome P (zeros P) limit) (runTable P (zeros P) limit) (runTable P (zeros P) limit)
+    RunMeans = RunSays limit (runOutcome P (zeros P) limit) (runTable P (zeros P) limit)
 
     -- round r + 1 is the first that stops
     stops-mean : (r : ℕ) → r < limit → Running P (zeros P) r → stopsAt P (zeros P) (suc r) ≡ true → RunMeans
@@ -66,20 +87,19 @@ module _ (P : Plan) (wf : WellFormed P) where
         go true e =
             let w = self-wait P wf A B v n e in
             let d = ends-broken P (zeros P) limit r h g e in
-            rw (d .outcome-is, d .table-is) (record { broken-then = λ b. w; broken-no-panel = λ b. no-panel P wf w; kept-then = λ k. absurd k; first-longest = λ k. absurd k; second-longest = λ k. absurd k; broken-if = λ u h x. tt; kept-if = λ u h no. no w })
+            rw (d .outcome-is, d .table-is) (record { waits = λ b. w; settled = λ k. absurd k; decided = λ f. inl tt })
         go false e =
             let q = one-holds P (zeros P) r s e in
             let b : B ≡ A = sym (same-eq A B q) in
             let m : IsNext P A A = subst (IsNext P A) b n in
             let d = ends-kept P (zeros P) limit r h g e q in
-            rw (d .outcome-is, d .table-is ∙ b) (record { broken-then = λ x. absurd x; broken-no-panel = λ x. absurd x; kept-then = λ k. no-self-wait P wf A v m; first-longest = λ k. holds-longest P wf A v m; second-longest = λ k. holds-longest P wf A v m; broken-if = λ u h x. absurd (no-self-wait P wf A v m x); kept-if = λ u h no. tt })
+            rw (d .outcome-is, d .table-is ∙ b) (record { waits = λ x. absurd x; settled = λ k. record { closed = m .covers; free = v .quiet; longest = holds-longest P wf A v m; no-wait = no-self-wait P wf A v m }; decided = λ f. inr tt })
 
     -- no round up to the limit stops, so that it is not enough
     limit-means : Running P (zeros P) limit → RunMeans
     limit-means g =
-        let few : enoughRounds P ≤ limit → ⊥ = λ h. omega (arith, running-bound limit g) in
         let d = ends-spent P (zeros P) limit g in
-        rw (d .outcome-is, d .table-is) (record { broken-then = λ x. absurd x; broken-no-panel = λ x. absurd x; kept-then = λ x. absurd x; first-longest = λ x. absurd x; second-longest = λ x. absurd x; broken-if = λ u h x. absurd (few h); kept-if = λ u h no. absurd (few h) })
+        rw (d .outcome-is, d .table-is) (record { waits = λ x. absurd x; settled = λ x. absurd x; decided = λ h. absurd (omega (arith, running-bound limit g)) })
 
     pub run-means : RunMeans
     run-means = go (stops-or-runs P (zeros P) limit)
@@ -88,20 +108,57 @@ module _ (P : Plan) (wf : WellFormed P) where
         go (inl (r, s)) = stops-mean (s .before) (s .within) (s .runs) (s .here)
         go (inr g) = limit-means g
 
+  -- so the meaning of the answer (15), of any two tables that begin with this one
+  module _ (limit : ℕ) (o : Outcome) (A : List ℕ) (says : RunSays limit o A) where
+    broken-if : enoughRounds P ≤ limit → SelfWait P → IsBroken o
+    broken-if h w = go (says .decided h)
+      where
+        go : IsBroken o ⊎ IsKept o → IsBroken o
+        go (inl b) = b
+        go (inr k) = absurd (says .settled k .no-wait w)
+
+    kept-if : enoughRounds P ≤ limit → (SelfWait P → ⊥) → IsKept o
+    kept-if h n = go (says .decided h)
+      where
+        go : IsBroken o ⊎ IsKept o → IsKept o
+        go (inl b) = absurd (n (says .waits b))
+        go (inr k) = k
+
+    module _ (whole : length A ≡ cells P) where
+      follows : IsKept o → (F : List ℕ) (prefer : State → ℕ) → Followed P (A ++ F) prefer
+      follows k F prefer = let t = says .settled k in followed wf (closed-on wf A F whole (t .closed)) (free-on wf A F whole (t .free)) prefer
+
+      -- kept exactly when a panel can
+      kept-exactly : enoughRounds P ≤ limit → IsKept o ↔ Panel 1 P AnyDuration
+      kept-exactly h = (λ k. follows k [] (λ s. 0) .panel, λ p. kept-if h (λ w. none-for-any (no-panel P wf w) 1 (omega arith) p))
+
+      pub means : (F G : List ℕ) → Meaning P limit o (A ++ F) (A ++ G)
+      means F G = record {
+        broken-then = says .waits;
+        broken-no-panel = λ b. no-panel P wf (says .waits b);
+        kept-then = λ k. says .settled k .no-wait;
+        first-longest = λ k c h. rw (List·getD-append A F 0 c (omega arith)) (says .settled k .longest c h);
+        second-longest = λ k c h. rw (List·getD-append A G 0 c (omega arith)) (says .settled k .longest c h);
+        first-followed = λ k. follows k F;
+        second-followed = λ k. follows k G;
+        broken-if = λ u. broken-if;
+        kept-if = λ u. kept-if;
+        kept-exactly = λ u. kept-exactly;
+      }
+
 -- a refusal says nothing of the plan
 pub refused-means : (P : Plan) (limit k : ℕ) (F G : List ℕ) → Meaning P limit (refused k) F G
-refused-means P limit k F G = record { broken-then = λ x. absurd x; broken-no-panel = λ x. absurd x; kept-then = λ x. absurd x; first-longest = λ x. absurd x; second-longest = λ x. absurd x; broken-if = λ u. absurd (u tt); kept-if = λ u. absurd (u tt) }
-
--- the meaning is that of the first cells alone
-pub means-on : (P : Plan) (limit : ℕ) (o : Outcome) (A F G : List ℕ) → length A ≡ cells P → Meaning P limit o A A → Meaning P limit o (A ++ F) (A ++ G)
-means-on P limit o A F G e d = record {
-  broken-then = d .broken-then;
-  broken-no-panel = d .broken-no-panel;
-  kept-then = d .kept-then;
-  first-longest = λ k c h. rw (List·getD-append A F 0 c (omega arith)) (d .first-longest k c h);
-  second-longest = λ k c h. rw (List·getD-append A G 0 c (omega arith)) (d .second-longest k c h);
-  broken-if = d .broken-if;
-  kept-if = d .kept-if;
+refused-means P limit k F G = record {
+  broken-then = λ x. absurd x;
+  broken-no-panel = λ x. absurd x;
+  kept-then = λ x. absurd x;
+  first-longest = λ x. absurd x;
+  second-longest = λ x. absurd x;
+  first-followed = λ x. absurd x;
+  second-followed = λ x. absurd x;
+  broken-if = λ u. absurd (u tt);
+  kept-if = λ u. absurd (u tt);
+  kept-exactly = λ u. absurd (u tt);
 }
 
 -- 15.4's number for the most cells, the longest horizon and the largest M
@@ -110,8 +167,11 @@ serving-is = refl
 
 -- ---- over the bytes of a plan
 module _ (bs : List ℕ) (accepted : Accepted bs) where
-  pub run-means-bytes : (limit : ℕ) → Meaning (planOf bs) limit (runOutcome (planOf bs) (zeros (planOf bs)) limit) (runTable (planOf bs) (zeros (planOf bs)) limit) (runTable (planOf bs) (zeros (planOf bs)) limit)
-  run-means-bytes limit = run-means (planOf bs) (accepted-well-formed bs accepted) limit
+  pub run-means-bytes : (limit : ℕ) (F G : List ℕ) → Meaning (planOf bs) limit (runOutcome (planOf bs) (zeros (planOf bs)) limit) (runTable (planOf bs) (zeros (planOf bs)) limit ++ F) (runTable (planOf bs) (zeros (planOf bs)) limit ++ G)
+  run-means-bytes limit = means (planOf bs) wf limit (runOutcome (planOf bs) (zeros (planOf bs)) limit) (runTable (planOf bs) (zeros (planOf bs)) limit) (run-means (planOf bs) wf limit) (run-length (planOf bs) wf (zeros (planOf bs)) (length-replicate (cells (planOf bs)) 0) limit)
+    where
+      wf : WellFormed (planOf bs)
+      wf = accepted-well-formed bs accepted
 
   -- the limit that serves every accepted plan
   pub serves : enoughRounds (planOf bs) ≤ servingLimit

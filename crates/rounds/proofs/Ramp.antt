@@ -24,4 +24,4 @@ unfolding byteAt wordAt digit joinDigit join plain clearDigit contains union ins
 judged = (refl, refl)
 
 pub ramp-no-panel : NoPanel (planOf ramp)
-ramp-no-panel = run-means-bytes ramp (judged .0) 4 .broken-no-panel (subst IsBroken (sym (judged .1)) tt)
+ramp-no-panel = run-means-bytes ramp (judged .0) 4 [] [] .broken-no-panel (subst IsBroken (sym (judged .1)) tt)

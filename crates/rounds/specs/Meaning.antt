@@ -1,11 +1,14 @@
 -- What the answers mean, over all finite derivations from a plan (15).
 use mathlib.Core.Path.{_≡_}
+use mathlib.Core.Logic.{_↔_}
 use mathlib.Core.List.{List}
 use Prim.Native.Nat.{ℕ, _+_, _*_, _≤_, _<_}
 use lib.ListN.{getD}
 use Rattle.plan.specs.Plan.{Plan, cells}
 use Rattle.rules.specs.Derivations.{Reaches, SelfWait}
-use Rattle.rules_panel.specs.Strategies.{NoPanel}
+use Rattle.rules_panel.specs.Dramas.{AnyDuration}
+use Rattle.rules_panel.specs.Strategies.{Panel, NoPanel}
+use Rattle.rules_follow.specs.Following.{State, Followed}
 use Rattle.rounds.specs.Outcomes.{Outcome, kept, broken, spent, refused}
 
 abbrev pub IsKept : Outcome → Type 0
@@ -45,12 +48,16 @@ enoughRounds P = cells P * (P .horizon + P .largest + 1) + 1
 abbrev pub servingLimit : ℕ
 servingLimit = 15571369985
 
--- 15.1, 15.2, 15.4, 15.6: broken and kept say what they mean whatever the limit, and with enough rounds a plan that is not refused gets one of them
+-- 15.1, 15.2, 15.4, 15.6, 15.7: broken and kept say what they mean whatever the limit, and with enough rounds a plan that is not refused gets one of them:
+-- kept exactly when a panel can keep it. Either table, followed, is such a panel
 pub record Meaning (P : Plan) (limit : ℕ) (o : Outcome) (first second : List ℕ) : Type 0 where
   pub broken-then : IsBroken o → SelfWait P
   pub broken-no-panel : IsBroken o → NoPanel P
   pub kept-then : IsKept o → SelfWait P → ⊥
   pub first-longest : IsKept o → (c : ℕ) → c < cells P → HoldsLongest P c (getD first c 0)
   pub second-longest : IsKept o → (c : ℕ) → c < cells P → HoldsLongest P c (getD second c 0)
+  pub first-followed : IsKept o → (prefer : State → ℕ) → Followed P first prefer
+  pub second-followed : IsKept o → (prefer : State → ℕ) → Followed P second prefer
   pub broken-if : (IsRefused o → ⊥) → enoughRounds P ≤ limit → SelfWait P → IsBroken o
   pub kept-if : (IsRefused o → ⊥) → enoughRounds P ≤ limit → (SelfWait P → ⊥) → IsKept o
+  pub kept-exactly : (IsRefused o → ⊥) → enoughRounds P ≤ limit → IsKept o ↔ Panel 1 P AnyDuration

@@ -1,0 +1,14 @@
+pub mod Searching
+pub mod Lateness
+pub mod TableLines
+pub mod LinkChains
+pub mod Stepping
+pub mod KnownDigits
+pub mod Spreading
+pub mod KeptEdges
+pub mod GoingBy
+pub mod Invariant
+pub mod Runs
+pub mod Positions
+pub mod Reacting
+pub mod Followed

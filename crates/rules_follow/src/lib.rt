@@ -1,0 +1,1 @@
+// Following a table: definitions and laws alone.
