@@ -1,11 +1,13 @@
-//! The library under test, a second checker and the panel's game made apart
-//! from it, and a seeded generator of plans and listings to run them on.
+//! The library under test; a second checker, the panel's game and a panel that
+//! follows the table of waits, made apart from it; and a seeded generator of
+//! plans and listings to run them on.
 
 pub mod compare;
 pub mod game;
 pub mod generate;
 pub mod library;
 pub mod port;
+pub mod rule;
 pub mod second;
 pub mod tally;
 

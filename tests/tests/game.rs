@@ -1,5 +1,6 @@
 //! The panel's game against the check: a plan is kept exactly if the panel can
-//! win.
+//! win. And the panel that follows the table of waits: it keeps a plan that is
+//! kept.
 
 use std::collections::HashMap;
 use std::fmt;
@@ -8,10 +9,11 @@ use std::path::PathBuf;
 use sulgrach_tests::game::{passes_every_column, read, won, Durations};
 use sulgrach_tests::game::{won_with_answers_told, won_with_durations_told};
 use sulgrach_tests::generate::{hex, Draft, Random};
-use sulgrach_tests::library::header::SULGRACH_ROUNDS;
-use sulgrach_tests::library::{self, BROKEN, KEPT};
-use sulgrach_tests::second::{Edge, Link};
-use sulgrach_tests::times;
+use sulgrach_tests::library::header::{SULGRACH_LISTING, SULGRACH_ROUNDS};
+use sulgrach_tests::library::{self, refused, BROKEN, KEPT};
+use sulgrach_tests::rule::{dramas, keeps, reacts_to_what_is_seen, Drama, Panel, Rule, Run};
+use sulgrach_tests::second::{self, run_and_list, Edge, Link, Plan, MOST_LINES};
+use sulgrach_tests::{plan_files, times};
 
 /// The most plans of one seed.
 const STEPS: u64 = 30;
@@ -63,12 +65,7 @@ fn written_plans() {
     // Second by second they would take too long.
     let by_the_minute = LONG.into_iter().map(|name| (name, in_minutes(plan_of(name))));
     for (name, plan) in played.chain(by_the_minute) {
-        let text = String::from_utf8(file(&format!("{name}.out"))).expect("text");
-        let kept = match text.split_whitespace().next() {
-            Some("kept") => true,
-            Some("broken") => false,
-            other => panic!("{name}.out starts with {other:?}"),
-        };
+        let kept = said_to_be_kept(name);
         // The harder game is to be won, or the easier one to be lost.
         let durations = if kept { Durations::LeastToMost } else { Durations::LeastOrMost };
         assert_eq!(won(&plan, durations), kept, "{name}");
@@ -120,6 +117,16 @@ fn changed(plan: &Draft, row: usize, seconds: i64) -> Option<Draft> {
     let number = if (row - edges).is_multiple_of(2) { &mut link.least } else { &mut link.most };
     *number += seconds;
     (0 < link.least && link.least < link.most).then_some(plan)
+}
+
+/// The verdict of the output beside the plan.
+fn said_to_be_kept(name: &str) -> bool {
+    let text = String::from_utf8(file(&format!("{name}.out"))).expect("text");
+    match text.split_whitespace().next() {
+        Some("kept") => true,
+        Some("broken") => false,
+        other => panic!("{name}.out starts with {other:?}"),
+    }
 }
 
 fn plan_of(name: &str) -> Draft {
@@ -199,9 +206,317 @@ fn won_either_way(plan: &Draft, shown: &dyn Fn() -> String) -> bool {
 }
 
 fn check(plan: &Draft) -> u32 {
-    let cells = plan.points << plan.links.len() << (2 * plan.observing.len());
-    let (mut first, mut second) = (vec![0; cells], vec![0; cells]);
-    library::check(&plan.bytes(), &mut first, &mut second, SULGRACH_ROUNDS, &mut [0])
+    check_with_table(plan).0
+}
+
+/// The answer, and the table that the check leaves.
+fn check_with_table(plan: &Draft) -> (u32, Vec<u32>) {
+    let (mut first, mut second) = (vec![0; cells(plan)], vec![0; cells(plan)]);
+    let answer = library::check(&plan.bytes(), &mut first, &mut second, SULGRACH_ROUNDS, &mut [0]);
+    (answer, first)
+}
+
+fn cells(plan: &Draft) -> usize {
+    plan.points << plan.links.len() << (2 * plan.observing.len())
+}
+
+// --------------------------------------------------- following the table
+
+/// The plans of the game's test, of its first seeds.
+#[test]
+fn generated_plans_followed() {
+    let count = times(300);
+    println!("up to {STEPS} plans of each of {count} seeds from 0");
+    let mut followed = Followed::default();
+    for seed in 0..count {
+        walk(seed, &SIZES, &[2, 3, 4, 8], |plan, step| {
+            followed.follow_or_list(plan, format_args!("seed {seed}, step {step}"))
+        });
+    }
+    println!("generated_plans_followed: {} dramas, each in three orders: {followed:?}", followed.dramas);
+    assert!(followed.kept > 2_000 && followed.listed > followed.broken / 100 * 99, "{followed:?}");
+    followed.is_enough();
+}
+
+/// More links and more propositions than the game's test has. The listings of
+/// such plans are often too long.
+#[test]
+fn larger_plans_followed() {
+    let count = times(60);
+    println!("up to {STEPS} plans of each of {count} seeds from 0");
+    let mut followed = Followed::default();
+    for seed in 0..count {
+        walk(seed, &LARGER_SIZES, &[3, 4], |plan, step| {
+            followed.follow(plan, format_args!("seed {seed}, step {step}"))
+        });
+    }
+    println!("larger_plans_followed: {} dramas, each in three orders: {followed:?}", followed.dramas);
+    followed.is_enough();
+}
+
+/// Every plan of the folder, with every whole duration of its links.
+#[test]
+fn written_plans_followed() {
+    let mut followed = Followed::default();
+    for path in plan_files() {
+        let name = path.file_stem().and_then(|stem| stem.to_str()).expect("a name");
+        let kept = followed.follow_or_list(&plan_of(name), format_args!("{name}"));
+        assert_eq!(kept, said_to_be_kept(name), "{name}");
+    }
+    println!("written_plans_followed: {} dramas, each in three orders: {followed:?}", followed.dramas);
+    assert!(followed.kept >= 10 && followed.broken >= 9, "{followed:?}");
+    assert_eq!(followed.listed, followed.broken, "{followed:?}");
+    assert!(followed.kept_with_durations_between >= 7 && followed.dramas > 100_000, "{followed:?}");
+    assert!(followed.wrong.iter().all(|count| *count >= 4), "{followed:?}");
+}
+
+const WRONG: [Rule; 3] = [Rule::ForgetsLateness, Rule::ForgetsLongest, Rule::BeforeAnswers];
+
+/// Dramas are compared with each other where a plan has no more than these.
+const MOST_COMPARED: usize = 60;
+
+#[derive(Debug, Default)]
+struct Followed {
+    broken: u64,
+    /// Broken, with a listing that replay accepts.
+    listed: u64,
+    kept: u64,
+    kept_with_links_and_propositions: u64,
+    /// A link of it may take neither its least nor its most.
+    kept_with_durations_between: u64,
+    kept_and_dramas_compared: u64,
+    dramas: u64,
+    /// Kept plans with a drama in which this wrong rule breaks a row.
+    wrong: [u64; 3],
+}
+
+impl Followed {
+    /// Whether the plan is kept. If it is broken, there has to be a listing.
+    fn follow_or_list(&mut self, plan: &Draft, origin: fmt::Arguments) -> bool {
+        let kept = self.follow(plan, origin);
+        let shown = || format!("{origin}, bytes {}", hex(&plan.bytes()));
+        self.listed += u64::from(!kept && has_listing(plan, &shown));
+        kept
+    }
+
+    /// Whether the plan is kept. The panel then has to keep it in every drama.
+    fn follow(&mut self, draft: &Draft, origin: fmt::Arguments) -> bool {
+        let bytes = draft.bytes();
+        let shown = || format!("{origin}, bytes {}", hex(&bytes));
+        let (answer, table) = check_with_table(draft);
+        if answer == BROKEN {
+            self.broken += 1;
+            return false;
+        }
+        assert_eq!(answer, KEPT, "{}", shown());
+        let plan = accepted(draft);
+        let dramas = dramas(&plan);
+        let compared = dramas.len() <= MOST_COMPARED;
+        follows_table(&plan, &table, &dramas, compared, &shown);
+
+        let between = |link: &Link| link.most - link.least >= 2;
+        self.kept += 1;
+        self.kept_with_links_and_propositions +=
+            u64::from(!plan.links.is_empty() && !plan.observing.is_empty());
+        self.kept_with_durations_between += u64::from(plan.links.iter().any(between));
+        self.kept_and_dramas_compared += u64::from(compared);
+        self.dramas += dramas.len() as u64;
+        for (rule, count) in WRONG.into_iter().zip(&mut self.wrong) {
+            *count += u64::from(breaks_a_row(&Panel::new(&plan, &table, rule), &plan, &dramas));
+        }
+        true
+    }
+
+    /// Enough plans of every kind, so that following them means something.
+    fn is_enough(&self) {
+        let Followed { kept, broken, .. } = *self;
+        assert!(kept > 300 && kept > broken / 4 && broken > kept / 4, "{self:?}");
+        assert!(self.kept_with_links_and_propositions > kept / 3, "{self:?}");
+        assert!(self.kept_with_durations_between > kept / 3, "{self:?}");
+        assert!(self.kept_and_dramas_compared > kept / 5, "{self:?}");
+        assert!(self.dramas > 10 * kept, "{self:?}");
+        assert!(self.wrong.iter().all(|count| *count > kept / 10), "{self:?}");
+    }
+}
+
+fn accepted(draft: &Draft) -> Plan {
+    second::read(&draft.bytes()).unwrap_or_else(|refusal| panic!("refused {refusal}: {draft:?}"))
+}
+
+/// Which of the points that may go comes first: the lowest, the highest, or
+/// another one.
+fn preferences(points: usize) -> [Vec<usize>; 3] {
+    let lowest: Vec<usize> = (0..points).collect();
+    let highest = lowest.iter().copied().rev().collect();
+    let mut other = lowest.clone();
+    Random::new(0).shuffle(&mut other);
+    [lowest, highest, other]
+}
+
+/// The panel keeps the plan in these dramas, in whatever order. The order
+/// changes no time, since what is learnt only makes lines disagree; nor do
+/// lines with an unknown digit.
+fn follows_table(plan: &Plan, table: &[u32], dramas: &[Drama], compared: bool, shown: &dyn Fn() -> String) {
+    let panel = Panel::new(plan, table, Rule::Right);
+    let mut times: Vec<Vec<i64>> = Vec::new();
+    for preference in preferences(plan.points) {
+        let run = |drama: &Drama| -> Run {
+            let case = || format!("{drama:?}, first of {preference:?}, {}", shown());
+            let run = panel.run(drama, &preference);
+            let run = run.unwrap_or_else(|| panic!("a point is left out: {}", case()));
+            assert!(keeps(plan, drama, &run.times), "{run:?}, {}", case());
+            run
+        };
+        let runs: Vec<Run> = dramas.iter().map(run).collect();
+        let reacts = !compared || reacts_to_what_is_seen(plan, dramas, &runs);
+        assert!(reacts, "first of {preference:?}, {}", shown());
+        let now: Vec<Vec<i64>> = runs.into_iter().map(|run| run.times).collect();
+        assert!(times.is_empty() || times == now, "first of {preference:?}, {}", shown());
+        times = now;
+    }
+    let minds_more = Panel::new(plan, table, Rule::CountsUnknown);
+    let [lowest, ..] = preferences(plan.points);
+    for (drama, times) in dramas.iter().zip(times) {
+        let run = minds_more.run(drama, &lowest);
+        assert_eq!(run.map(|run| run.times), Some(times), "{drama:?}, {}", shown());
+    }
+}
+
+/// Whether there is a drama in which all points come and a row is broken.
+fn breaks_a_row(panel: &Panel, plan: &Plan, dramas: &[Drama]) -> bool {
+    let breaks = |drama: &Drama, preference: &Vec<usize>| {
+        let run = panel.run(drama, preference);
+        run.is_some_and(|run| !keeps(plan, drama, &run.times))
+    };
+    let preferences = preferences(plan.points);
+    dramas.iter().any(|drama| preferences.iter().any(|preference| breaks(drama, preference)))
+}
+
+/// Whether the plan's listing is handed over, as it is unless it has too many
+/// lines. Replay then has to accept it.
+fn has_listing(plan: &Draft, shown: &dyn Fn() -> String) -> bool {
+    let (mut first, mut second) = (vec![0; cells(plan)], vec![0; cells(plan)]);
+    let (mut index, mut out) = (vec![0; cells(plan)], vec![0; SULGRACH_LISTING as usize]);
+    let (limit, mut numbers) = (SULGRACH_ROUNDS, [0, 0]);
+    let bytes = plan.bytes();
+    let answer = library::list(&bytes, &mut first, &mut second, limit, &mut index, &mut out, &mut numbers);
+    if answer == refused(7) {
+        assert!(run_and_list(&accepted(plan), limit).lines.len() > MOST_LINES, "{}", shown());
+        return false;
+    }
+    assert_eq!(answer, BROKEN, "{}", shown());
+    assert_eq!(library::replay(&bytes, &out[..numbers[1] as usize]), 0, "{}", shown());
+    true
+}
+
+// --------------------------------------------- following the table, by hand
+
+/// The quick ramp: the beam is asked when the shutter is down, and the jet fans
+/// start then if it says no, and at 180 s if it says yes.
+#[test]
+fn quick_ramp_followed() {
+    let plan = plan_of("ramp-quick");
+    for down in 15..=60 {
+        assert_eq!(times_by(Rule::Right, &plan, 1, &[down]), [0, down, down, 180]);
+        assert_eq!(times_by(Rule::Right, &plan, 2, &[down]), [0, down, down, down]);
+    }
+    // Started without the answer, the jet fans do not wait for 180 s.
+    assert_eq!(times_by(Rule::BeforeAnswers, &plan, 1, &[30]), [0, 30, 30, 30]);
+}
+
+/// A fan at least 1 s after a damper that takes 1 to 3 s has opened: with the
+/// wrong rules it starts at once if the damper is late, or takes its most.
+#[test]
+fn late_damper_followed() {
+    let link = Link { activation: 0, end: 1, least: 1, most: 3 };
+    let edge = Edge { from: 2, to: 1, weight: -1, label: 0 };
+    let plan = Draft { points: 3, observing: vec![], links: vec![link], edges: vec![edge] };
+    for (rule, times) in [
+        (Rule::Right, [[0, 1, 2], [0, 2, 3], [0, 3, 4]]),
+        (Rule::ForgetsLateness, [[0, 1, 2], [0, 2, 2], [0, 3, 3]]),
+        (Rule::ForgetsLongest, [[0, 1, 2], [0, 2, 3], [0, 3, 3]]),
+    ] {
+        for (opens, times) in (1..=3).zip(times) {
+            assert_eq!(times_by(rule, &plan, 0, &[opens]), times, "{rule:?}");
+            let drama = Drama { scenario: 0, situation: vec![opens] };
+            assert_eq!(keeps(&accepted(&plan), &drama, &times), times[2] > times[1], "{times:?}");
+        }
+    }
+}
+
+/// Doors that wait 1 s if the answer of point 1 is yes: with the wrong rule they
+/// are released before it has been asked.
+#[test]
+fn open_answer_followed() {
+    let edge = Edge { from: 2, to: 0, weight: -1, label: 1 };
+    let plan = Draft { points: 3, observing: vec![1], links: vec![], edges: vec![edge] };
+    assert_eq!(times_by(Rule::Right, &plan, 1, &[]), [0, 0, 1]);
+    assert_eq!(times_by(Rule::Right, &plan, 2, &[]), [0, 0, 0]);
+    assert_eq!(times_by(Rule::BeforeAnswers, &plan, 1, &[]), [0, 0, 0]);
+    let yes = Drama { scenario: 1, situation: vec![] };
+    assert!(keeps(&accepted(&plan), &yes, &[0, 0, 1]));
+    assert!(!keeps(&accepted(&plan), &yes, &[0, 0, 0]));
+}
+
+/// When each point comes, the highest of those that may go first.
+fn times_by(rule: Rule, draft: &Draft, scenario: u8, situation: &[i64]) -> Vec<i64> {
+    let (answer, table) = check_with_table(draft);
+    assert_eq!(answer, KEPT, "{draft:?}");
+    let [_, highest, _] = preferences(draft.points);
+    let drama = Drama { scenario, situation: situation.to_vec() };
+    let run = Panel::new(&accepted(draft), &table, rule).run(&drama, &highest);
+    run.expect("no point is left out").times
+}
+
+/// Two links, each from the other's end, never start, whatever the table.
+#[test]
+fn points_left_out() {
+    let link = |activation, end| Link { activation, end, least: 1, most: 2 };
+    let links = vec![link(1, 2), link(2, 1)];
+    let draft = Draft { points: 4, observing: vec![], links, edges: vec![] };
+    let plan = accepted(&draft);
+    let drama = Drama { scenario: 0, situation: vec![1, 2] };
+    for wait in [0, 1, 100] {
+        let table = vec![wait; plan.cells()];
+        assert_eq!(Panel::new(&plan, &table, Rule::Right).run(&drama, &[0, 1, 2, 3]), None, "{wait}");
+    }
+}
+
+/// Point 0 at another second, or a link that does not take its duration.
+#[test]
+fn times_that_do_not_keep() {
+    let plan = accepted(&plan_of("c5"));
+    let drama = Drama { scenario: 0, situation: vec![3] };
+    assert!(keeps(&plan, &drama, &[0, 3]));
+    assert!(!keeps(&plan, &drama, &[1, 4]));
+    assert!(!keeps(&plan, &drama, &[0, 2]) && !keeps(&plan, &drama, &[0, 4]));
+}
+
+/// Runs that no panel makes: point 2 knows an answer before it is learnt, or a
+/// duration before the link has ended.
+#[test]
+fn reactions_to_what_is_not_seen() {
+    let plan = Draft { points: 3, observing: vec![1], links: vec![], edges: vec![] };
+    let run = |times: [i64; 3], order: [usize; 3]| Run { times: times.to_vec(), order: order.to_vec() };
+    let react = |plan: &Draft, runs: &[Run]| {
+        let plan = accepted(plan);
+        reacts_to_what_is_seen(&plan, &dramas(&plan), runs)
+    };
+    // The answer is yes in the first drama and no in the second.
+    assert!(react(&plan, &[run([0, 2, 2], [0, 1, 2]), run([0, 2, 3], [0, 1, 2])]));
+    assert!(!react(&plan, &[run([0, 2, 2], [0, 2, 1]), run([0, 2, 3], [0, 1, 2])]));
+    assert!(!react(&plan, &[run([0, 2, 1], [0, 2, 1]), run([0, 2, 3], [0, 1, 2])]));
+    assert!(!react(&plan, &[run([0, 2, 3], [0, 1, 2]), run([0, 2, 1], [0, 2, 1])]));
+
+    // The link takes 1 s in the first drama, and 2 s and 3 s in the others.
+    let link = Link { activation: 0, end: 1, least: 1, most: 3 };
+    let plan = Draft { points: 3, observing: vec![], links: vec![link], edges: vec![] };
+    let ends_first = |times| run(times, [0, 1, 2]);
+    let goes_first = |times| run(times, [0, 2, 1]);
+    assert!(react(&plan, &[ends_first([0, 1, 1]), ends_first([0, 2, 2]), ends_first([0, 3, 5])]));
+    assert!(react(&plan, &[ends_first([0, 1, 4]), goes_first([0, 2, 1]), goes_first([0, 3, 1])]));
+    assert!(!react(&plan, &[ends_first([0, 1, 1]), goes_first([0, 2, 1]), ends_first([0, 3, 5])]));
+    assert!(!react(&plan, &[ends_first([0, 1, 1]), ends_first([0, 2, 2]), goes_first([0, 3, 1])]));
 }
 
 // ----------------------------------------------------------------- plans
@@ -237,6 +552,8 @@ const SIZES: [Sizes; 23] = [
 
 const SMALL_SIZES: [Sizes; 8] =
     [(3, 0, 2), (3, 1, 1), (3, 2, 0), (4, 0, 2), (4, 1, 1), (4, 1, 2), (4, 2, 0), (4, 2, 1)];
+
+const LARGER_SIZES: [Sizes; 5] = [(6, 0, 3), (6, 1, 3), (6, 3, 1), (7, 1, 4), (7, 2, 3)];
 
 /// The plans of a seed: a plan that is won, as `is_won` says, is tightened, and
 /// one that is lost is relaxed step by step. So most plans lie at the border,
