@@ -260,15 +260,23 @@ fn written_plans_followed() {
     let mut followed = Followed::default();
     for path in plan_files() {
         let name = path.file_stem().and_then(|stem| stem.to_str()).expect("a name");
+        let before = followed.wrong;
         let kept = followed.follow_or_list(&plan_of(name), format_args!("{name}"));
         assert_eq!(kept, said_to_be_kept(name), "{name}");
+        let broken_by = [0, 1, 2].map(|rule| followed.wrong[rule] > before[rule]);
+        let late = LATENESS_DECIDES.contains(&name);
+        assert_eq!(broken_by, [late, late, late || ANSWERS_DECIDE.contains(&name)], "{name}");
     }
     println!("written_plans_followed: {} dramas, each in three orders: {followed:?}", followed.dramas);
     assert!(followed.kept >= 10 && followed.broken >= 9, "{followed:?}");
     assert_eq!(followed.listed, followed.broken, "{followed:?}");
     assert!(followed.kept_with_durations_between >= 7 && followed.dramas > 100_000, "{followed:?}");
-    assert!(followed.wrong.iter().all(|count| *count >= 4), "{followed:?}");
 }
+
+/// The plans that README.md names: every wrong rule breaks rows of the first,
+/// and of the others only the one that does not wait for answers.
+const LATENESS_DECIDES: [&str; 5] = ["carpark-quick", "coldstore", "corridor", "hotel", "tower-early"];
+const ANSWERS_DECIDE: [&str; 2] = ["c10", "ramp-quick"];
 
 const WRONG: [Rule; 3] = [Rule::ForgetsLateness, Rule::ForgetsLongest, Rule::BeforeAnswers];
 
