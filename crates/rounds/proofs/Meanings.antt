@@ -17,7 +17,7 @@ use Rattle.rules_panel.specs.Dramas.{AnyDuration}
 use Rattle.rules_panel.specs.Strategies.{Panel}
 use Rattle.rules_panel.proofs.Broken.{no-panel}
 use Rattle.rules_panel.proofs.FewerDurations.{none-for-any}
-use Rattle.rules_follow.specs.Following.{State, Followed}
+use Rattle.rules_follow.specs.Following.{Preference, Followed}
 use Rattle.rules_follow.proofs.TableLines.{Closed}
 use Rattle.rules_follow.proofs.Followed.{FirstFree, closed-on, free-on, followed}
 use Rattle.rounds_tables.proofs.Comparing.{same-eq}
@@ -125,12 +125,12 @@ module _ (P : Plan) (wf : WellFormed P) where
         go (inr k) = k
 
     module _ (whole : length A ≡ cells P) where
-      follows : IsKept o → (F : List ℕ) (prefer : State → ℕ) → Followed P (A ++ F) prefer
+      follows : IsKept o → (F : List ℕ) (prefer : Preference) → Followed P (A ++ F) prefer
       follows k F prefer = let t = says .settled k in followed wf (closed-on wf A F whole (t .closed)) (free-on wf A F whole (t .free)) prefer
 
       -- kept exactly when a panel can
       kept-exactly : enoughRounds P ≤ limit → IsKept o ↔ Panel 1 P AnyDuration
-      kept-exactly h = (λ k. follows k [] (λ s. 0) .panel, λ p. kept-if h (λ w. none-for-any (no-panel P wf w) 1 (omega arith) p))
+      kept-exactly h = (λ k. follows k [] (λ s answers. 0) .panel, λ p. kept-if h (λ w. none-for-any (no-panel P wf w) 1 (omega arith) p))
 
       pub means : (F G : List ℕ) → Meaning P limit o (A ++ F) (A ++ G)
       means F G = record {

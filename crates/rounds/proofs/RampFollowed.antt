@@ -4,7 +4,6 @@ use mathlib.Core.Bool.{Bool, true, false}
 use mathlib.Core.List.{List, [], _∷_, _++_, map}
 use Prim.Native.Nat.{ℕ, zero, suc, _≤_, _<_}
 use native.Mathlib.Omega.{arith}
-use lib.ListN.{getD}
 use Rattle.plan.specs.Bytes.{byteAt, wordAt}
 use Rattle.plan.specs.Label.{digit, joinDigit, join, plain, clearDigit}
 use Rattle.plan.specs.LinkSet.{contains, union, insert, remove}
@@ -15,7 +14,7 @@ use Rattle.rules.specs.Lines.{below}
 use Rattle.rules.specs.Tables.{raiseCell, next}
 use Rattle.rules_panel.specs.Dramas.{AnyDuration, Drama}
 use Rattle.rules_panel.proofs.RampQuick.{rampQuick}
-use Rattle.rules_follow.specs.Following.{first, sumOver, State, agrees, ended, disjoint, runOut, goesBy, ready, chosen, act, run, final, Followed}
+use Rattle.rules_follow.specs.Following.{first, sumOver, Preference, agrees, ended, disjoint, runOut, goesBy, ready, chosen, act, run, final, Followed}
 use Rattle.rounds.specs.Rounds.{zeros}
 use Rattle.rounds.specs.Outcomes.{kept, runOutcome, runTable}
 use Rattle.rounds.specs.Meaning.{IsKept}
@@ -34,7 +33,7 @@ unfolding byteAt wordAt digit joinDigit join plain clearDigit contains union ins
 judged = (refl, refl, refl)
 
 -- whatever the durations and the answers
-pub followed-waits : (prefer : State → ℕ) → Followed P waits prefer
+pub followed-waits : (prefer : Preference) → Followed P waits prefer
 followed-waits prefer = subst (λ (T : List ℕ). Followed P T prefer) (judged .2) (run-means-bytes rampQuick (judged .0) 4 [] [] .first-followed (subst IsKept (sym (judged .1)) tt) prefer)
 
 -- ---- a shutter that takes 40 s
@@ -51,7 +50,7 @@ takes40 b = record { scenario = λ j. b; situation = λ i. 40; no-shorter = shor
     longer (suc i) h = absurd (omega arith)
 
 abbrev timesIn : Bool → List ℕ
-timesIn b = map (final P waits (λ s. 0) (takes40 b) .time) (below 4)
+timesIn b = map (final P waits (λ s answers. 0) (takes40 b) .time) (below 4)
 
 -- alarm, shutter down, poll, jets: by computation
 played : (timesIn true ≡ 0 ∷ 40 ∷ 40 ∷ 180 ∷ []) × (timesIn false ≡ 0 ∷ 40 ∷ 40 ∷ 40 ∷ [])

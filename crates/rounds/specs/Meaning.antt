@@ -8,7 +8,7 @@ use Rattle.plan.specs.Plan.{Plan, cells}
 use Rattle.rules.specs.Derivations.{Reaches, SelfWait}
 use Rattle.rules_panel.specs.Dramas.{AnyDuration}
 use Rattle.rules_panel.specs.Strategies.{Panel, NoPanel}
-use Rattle.rules_follow.specs.Following.{State, Followed}
+use Rattle.rules_follow.specs.Following.{Preference, Followed}
 use Rattle.rounds.specs.Outcomes.{Outcome, kept, broken, spent, refused}
 
 abbrev pub IsKept : Outcome → Type 0
@@ -56,8 +56,8 @@ pub record Meaning (P : Plan) (limit : ℕ) (o : Outcome) (first second : List �
   pub kept-then : IsKept o → SelfWait P → ⊥
   pub first-longest : IsKept o → (c : ℕ) → c < cells P → HoldsLongest P c (getD first c 0)
   pub second-longest : IsKept o → (c : ℕ) → c < cells P → HoldsLongest P c (getD second c 0)
-  pub first-followed : IsKept o → (prefer : State → ℕ) → Followed P first prefer
-  pub second-followed : IsKept o → (prefer : State → ℕ) → Followed P second prefer
+  pub first-followed : IsKept o → (prefer : Preference) → Followed P first prefer
+  pub second-followed : IsKept o → (prefer : Preference) → Followed P second prefer
   pub broken-if : (IsRefused o → ⊥) → enoughRounds P ≤ limit → SelfWait P → IsBroken o
   pub kept-if : (IsRefused o → ⊥) → enoughRounds P ≤ limit → (SelfWait P → ⊥) → IsKept o
   pub kept-exactly : (IsRefused o → ⊥) → enoughRounds P ≤ limit → IsKept o ↔ Panel 1 P AnyDuration

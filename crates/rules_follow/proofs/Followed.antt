@@ -20,7 +20,7 @@ use Rattle.rules.proofs.InRange.{range}
 use Rattle.rules.proofs.Next.{Cell}
 use Rattle.rules_panel.specs.Dramas.{AnyDuration, Drama}
 use Rattle.rules_panel.specs.Strategies.{Viable}
-use Rattle.rules_follow.specs.Following.{State, run, final, Followed}
+use Rattle.rules_follow.specs.Following.{Preference, run, final, Followed}
 use Rattle.rules_follow.proofs.Lateness.{Out, lateness}
 use Rattle.rules_follow.proofs.TableLines.{Held, Closed, HasLine, weaker}
 use Rattle.rules_follow.proofs.KnownDigits.{TrueDigit, known-true}
@@ -55,7 +55,7 @@ module _ {P : Plan} (wf : WellFormed P) (A F : List ℕ) (whole : length A ≡ c
   pub free-on : FirstFree P A → FirstFree P (A ++ F)
   free-on free c h = same-cell c (omega (arith, h, mul-le-mul-right (width P) (le-trans (le-suc 1) (wf .two)))) ∙ free c h
 
-module _ {P : Plan} (wf : WellFormed P) {T : List ℕ} (closed : Closed P T) (free : FirstFree P T) (prefer : State → ℕ) where
+module _ {P : Plan} (wf : WellFormed P) {T : List ℕ} (closed : Closed P T) (free : FirstFree P T) (prefer : Preference) where
   abbrev N : ℕ
   N = P .points + greatest (λ c. getD T c 0) (cells P)
 

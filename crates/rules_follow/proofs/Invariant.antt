@@ -12,7 +12,7 @@ use Rattle.plan.specs.Plan.{Plan}
 use Rattle.plan.proofs.Ranges.{WellFormed}
 use Rattle.rules_panel.specs.Dramas.{AnyDuration, Drama}
 use Rattle.rules_panel.specs.Strategies.{NoEnd}
-use Rattle.rules_follow.specs.Following.{State, initial, executed, execute, pass, next, run}
+use Rattle.rules_follow.specs.Following.{State, initial, executed, execute, pass, Preference, next, run}
 use Rattle.rules_follow.proofs.Lateness.{Out}
 use Rattle.rules_follow.proofs.TableLines.{Closed, start, weaker}
 use Rattle.rules_follow.proofs.Stepping.{Done, done?, Kept, comes-at, comes-off, Running, MayCome, Stepped, link-ends, point-comes, second-passes, step-is}
@@ -37,7 +37,7 @@ module _ {P : Plan} (T : List ℕ) (r : Drama P AnyDuration) where
     pub sure : (D : ℕ) → D < 2 ^ P .links → (x : ℕ) → x < P .points → Sure T r s D x (since s x)
     pub went : (x : ℕ) → x < P .points → NoEnd P x → Done s x → WentBy T r x (s .time x)
 
-module _ {P : Plan} (wf : WellFormed P) {T : List ℕ} (closed : Closed P T) (prefer : State → ℕ) (r : Drama P AnyDuration) where
+module _ {P : Plan} (wf : WellFormed P) {T : List ℕ} (closed : Closed P T) (prefer : Preference) (r : Drama P AnyDuration) where
   -- ---- a point comes
   module _ (s : State) (v : Invariant T r s) (y : ℕ) (fresh : Done s y → ⊥) where
     kept : (x : ℕ) → Done s x → Kept s (execute s y) x

@@ -13,7 +13,7 @@ use Rattle.plan.proofs.Digits.{digit-lt, plain-known, plain-of}
 use Rattle.plan.proofs.LabelLaws.{below4}
 use Rattle.plan.proofs.Ranges.{every-at}
 use Rattle.rules_panel.specs.Dramas.{AnyDuration, Drama, True}
-use Rattle.rules_follow.specs.Following.{State, executed, learnt, agreesAt, agrees}
+use Rattle.rules_follow.specs.Following.{State, executed, agreesAt, learnt, agrees}
 use Rattle.rules_follow.proofs.Searching.{is-true, or-of, every-of}
 use Rattle.rules_follow.proofs.TableLines.{join-zero, zero-join, join-same}
 use Rattle.rules_follow.proofs.Stepping.{Done, done?}
@@ -78,7 +78,7 @@ module _ {P : Plan} (r : Drama P AnyDuration) where
   learnt-not s j n = rw (le-ltb 0 (s .step (P .observer j)) (omega arith), and-false (ltb j (P .propositions)))
 
   -- a true digit agrees with what has been learnt
-  digit-agrees : (b : Bool) (answers : ℕ → ℕ) (j d : ℕ) → (d ≡ 0) ⊎ (d ≡ value b) → (answers j ≡ 0) ⊎ (answers j ≡ value b) → Is (agreesAt P answers j d)
+  digit-agrees : (b : Bool) (answers : ℕ → ℕ) (j d : ℕ) → (d ≡ 0) ⊎ (d ≡ value b) → (answers j ≡ 0) ⊎ (answers j ≡ value b) → Is (agreesAt answers j d)
   digit-agrees b answers j d (inl e) a = rw e tt
   digit-agrees true answers j d (inr e) (inl a) = rw (e, a) tt
   digit-agrees true answers j d (inr e) (inr a) = rw (e, a) tt
@@ -102,7 +102,7 @@ module _ {P : Plan} (r : Drama P AnyDuration) where
   -- and of one that does each digit is known, or of a proposition not learnt yet
   pub agrees-digits : (s : State) (label : ℕ) → Is (agrees P (learnt P (r .scenario) s) label) → (j : ℕ) → j < P .propositions → Agrees s j (digit label j)
   unfolding agrees
-  agrees-digits s label t j h = go (done? s (P .observer j)) (or-of (eqb (digit label j) 0 || eqb (a j) 0) _ (every-at (λ j. agreesAt P a j (digit label j)) (P .propositions) j (and-r (plain (P .propositions) label) _ t) h))
+  agrees-digits s label t j h = go (done? s (P .observer j)) (or-of (eqb (digit label j) 0 || eqb (a j) 0) _ (every-at (λ j. agreesAt a j (digit label j)) (P .propositions) j (and-r (plain (P .propositions) label) _ t) h))
     where
       a : ℕ → ℕ
       a j = learnt P (r .scenario) s j

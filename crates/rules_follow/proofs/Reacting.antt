@@ -14,7 +14,7 @@ use Rattle.plan.specs.Plan.{Plan, cells}
 use Rattle.plan.proofs.Ranges.{WellFormed}
 use Rattle.rules_panel.specs.Dramas.{AnyDuration, Drama}
 use Rattle.rules_panel.specs.Strategies.{NoEnd, Strategy, Ended, SameHistory, SamePlace}
-use Rattle.rules_follow.specs.Following.{State, executed, learnt, due, act, next, run, final, positionIn}
+use Rattle.rules_follow.specs.Following.{State, executed, Preference, learnt, due, act, next, run, final, positionIn}
 use Rattle.rules_follow.proofs.Searching.{is?, same-test, first-same}
 use Rattle.rules_follow.proofs.TableLines.{Closed}
 use Rattle.rules_follow.proofs.Stepping.{Done, Running, of-due, to-due}
@@ -22,7 +22,7 @@ use Rattle.rules_follow.proofs.Invariant.{holds}
 use Rattle.rules_follow.proofs.Runs.{stays, no-earlier, Came, came, one-each, all-come}
 use Rattle.rules_follow.proofs.Positions.{position-end, position-other, position-from, position-to, position-lower, position-distinct, position-same}
 
-module _ {P : Plan} (wf : WellFormed P) {T : List ℕ} (closed : Closed P T) (prefer : State → ℕ) where
+module _ {P : Plan} (wf : WellFormed P) {T : List ℕ} (closed : Closed P T) (prefer : Preference) where
   abbrev N : ℕ
   N = P .points + greatest (λ c. getD T c 0) (cells P)
 

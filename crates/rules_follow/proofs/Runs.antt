@@ -14,7 +14,7 @@ use Rattle.plan.proofs.Ranges.{WellFormed}
 use Rattle.rules.proofs.InRange.{none-in}
 use Rattle.rules_panel.specs.Dramas.{AnyDuration, Drama}
 use Rattle.rules_panel.proofs.Counts.{count, count-lt, count-zero, count-few, Some, some?}
-use Rattle.rules_follow.specs.Following.{State, initial, execute, pass, run}
+use Rattle.rules_follow.specs.Following.{State, initial, execute, pass, Preference, run}
 use Rattle.rules_follow.proofs.Lateness.{sum-none, over, lateness}
 use Rattle.rules_follow.proofs.TableLines.{Closed}
 use Rattle.rules_follow.proofs.LinkChains.{has-le}
@@ -30,7 +30,7 @@ new-is s y x n = go (ℕ-discrete x y)
     go (yes e) = e
     go (no e) = absurd (n .was-not (omega (arith, n .step-is, comes-off s y x e .step-is)))
 
-module _ (P : Plan) (T : List ℕ) (prefer : State → ℕ) (r : Drama P AnyDuration) where
+module _ (P : Plan) (T : List ℕ) (prefer : Preference) (r : Drama P AnyDuration) where
   pub each : {s u : State} → Stepped P T prefer r s u → (x : ℕ) → Kept s u x ⊎ Newly s u x
   each {s} (link-ends i h g e is) x = rw is (comes-each s (P .finish i) (g .not-ended) x)
   each {s} (point-comes y m is) x = rw is (comes-each s y (m .not-done) x)
@@ -133,7 +133,7 @@ left-less P s y n h = count-lt (λ x. Done (execute s y) x → ⊥) (λ x. Done 
     go x d (inl k) = omega (arith, k .step-is, d)
     go x d (inr k) = omega (arith, k .step-is)
 
-module _ {P : Plan} (wf : WellFormed P) {T : List ℕ} (closed : Closed P T) (prefer : State → ℕ) (r : Drama P AnyDuration) where
+module _ {P : Plan} (wf : WellFormed P) {T : List ℕ} (closed : Closed P T) (prefer : Preference) (r : Drama P AnyDuration) where
   -- nothing is late without links
   pub none-late : lateness r 0 ≡ 0
   none-late = sum-none (over r) (P .links) 0 (λ i h. none-in i)

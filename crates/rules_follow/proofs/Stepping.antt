@@ -15,7 +15,7 @@ use Rattle.plan.proofs.Ranges.{differs-at}
 use Rattle.rules_panel.specs.Dramas.{AnyDuration, Drama}
 use Rattle.rules_panel.specs.Strategies.{NoEnd}
 use Rattle.rules_panel.proofs.Dramas.{changed-at, changed-off}
-use Rattle.rules_follow.specs.Following.{first, State, executed, execute, pass, learnt, due, goesBy, ready, chosen, act, next}
+use Rattle.rules_follow.specs.Following.{first, State, executed, execute, pass, Preference, learnt, due, goesBy, ready, chosen, act, next}
 use Rattle.rules_follow.proofs.Searching.{is?, is-true, not-both, differs-of, first-passes, first-none, first-found}
 
 -- ---- a point has come
@@ -62,7 +62,7 @@ end? P x = go (is? (differs (P .finish) x (P .links)))
     go (inl t) = yes (test-no-end P x t)
     go (inr e) = no (λ n. not-both _ (no-end-test P x n) e)
 
-module _ (P : Plan) (T : List ℕ) (prefer : State → ℕ) (r : Drama P AnyDuration) where
+module _ (P : Plan) (T : List ℕ) (prefer : Preference) (r : Drama P AnyDuration) where
   abbrev pub answersIn : State → ℕ → ℕ
   answersIn s = learnt P (r .scenario) s
 
@@ -119,27 +119,28 @@ module _ (P : Plan) (T : List ℕ) (prefer : State → ℕ) (r : Drama P AnyDura
       (lt→ltb _ _ (first-found (goesBy P T s (answersIn s) x) (2 ^ P .links) (m .by) (m .by-in) (m .goes)))
 
   -- the point chosen may come, if it is one of the plan's; if it is none, no point may
-  chosen-may : (s : State) → chosen P T prefer s (answersIn s) < P .points → MayCome s (chosen P T prefer s (answersIn s))
-  unfolding chosen
-  chosen-may s h = go (is? (ready P T s (answersIn s) (prefer s))) h
-    where
-      f : ℕ → Bool
-      f x = ready P T s (answersIn s) x
+  module _ (s : State) where
+    abbrev may : ℕ → Bool
+    may x = ready P T s (answersIn s) x
 
-      go : Is (f (prefer s)) ⊎ (f (prefer s) ≡ false) → cond (f (prefer s)) (prefer s) (first f (P .points)) < P .points → MayCome s (cond (f (prefer s)) (prefer s) (first f (P .points)))
-      go (inl t) k = rw (is-true (f (prefer s)) t) (of-ready s (prefer s) t)
-      go (inr e) k = rw e (of-ready s (first f (P .points)) (first-passes f (P .points) (rw e at k)))
+    abbrev preferred : ℕ
+    preferred = prefer s (answersIn s)
 
-  none-may : (s : State) → (chosen P T prefer s (answersIn s) < P .points → ⊥) → (x : ℕ) → MayCome s x → ⊥
-  unfolding chosen
-  none-may s n x m = go (is? (ready P T s (answersIn s) (prefer s))) n
-    where
-      f : ℕ → Bool
-      f x = ready P T s (answersIn s) x
+    chosen-may : chosen P T prefer s (answersIn s) < P .points → MayCome s (chosen P T prefer s (answersIn s))
+    unfolding chosen
+    chosen-may h = go (is? (may preferred)) h
+      where
+        go : Is (may preferred) ⊎ (may preferred ≡ false) → cond (may preferred) preferred (first may (P .points)) < P .points → MayCome s (cond (may preferred) preferred (first may (P .points)))
+        go (inl t) k = rw (is-true (may preferred) t) (of-ready s preferred t)
+        go (inr e) k = rw e (of-ready s (first may (P .points)) (first-passes may (P .points) (rw e at k)))
 
-      go : Is (f (prefer s)) ⊎ (f (prefer s) ≡ false) → (cond (f (prefer s)) (prefer s) (first f (P .points)) < P .points → ⊥) → ⊥
-      go (inl t) k = k (rw (is-true (f (prefer s)) t) (of-ready s (prefer s) t .inside))
-      go (inr e) k = k (rw e (first-found f (P .points) x (m .inside) (to-ready s x m)))
+    none-may : (chosen P T prefer s (answersIn s) < P .points → ⊥) → (x : ℕ) → MayCome s x → ⊥
+    unfolding chosen
+    none-may n x m = go (is? (may preferred)) n
+      where
+        go : Is (may preferred) ⊎ (may preferred ≡ false) → (cond (may preferred) preferred (first may (P .points)) < P .points → ⊥) → ⊥
+        go (inl t) k = k (rw (is-true (may preferred) t) (of-ready s preferred t .inside))
+        go (inr e) k = k (rw e (first-found may (P .points) x (m .inside) (to-ready s x m)))
 
   pub step-is : (s : State) → Stepped s (next P T prefer r s)
   unfolding act

@@ -25,7 +25,8 @@ unfoldable pub sumOver : (ℕ → ℕ) → ℕ → ℕ → ℕ
 sumOver f D zero = 0
 sumOver f D (suc n) = sumOver f D n + cond (contains D n) (f n) 0
 
--- 20.1: what has come so far: the second that it is, the steps made, and for each point the step in which it came, from 1 on, and its time. A point that has not come has 0 for both
+-- 20.1: what has come so far: the second that it is, the steps made, and for each point the step in which it came, from 1 on, and its time;
+-- a point that has not come has 0 for both
 pub record State : Type 0 where
   pub now : ℕ
   pub steps : ℕ
@@ -50,14 +51,18 @@ execute s x = record {
 abbrev pub pass : State → State
 pass s = record { now = suc (s .now); steps = suc (s .steps); step = s .step; time = s .time }
 
+-- 20.4: digit d of proposition j agrees with the answers learnt: it is absent, not learnt yet, or the answer
+abbrev pub agreesAt : (ℕ → ℕ) → ℕ → ℕ → Bool
+agreesAt answers j d = eqb d 0 || eqb (answers j) 0 || eqb d (answers j)
+
+-- 20.7: the point that the panel prefers, going by the state and the answers learnt
+abbrev pub Preference : Type 0
+Preference = State → (ℕ → ℕ) → ℕ
+
 module _ (P : Plan) where
   -- 20.3: the answers learnt in a scenario, 1 for yes and 2 for no; 0 where the observing point has not come
   abbrev pub learnt : (ℕ → Bool) → State → ℕ → ℕ
   learnt scenario s j = cond (ltb j (P .propositions) && executed s (P .observer j)) (cond (scenario j) 1 2) 0
-
-  -- 20.4: digit d of proposition j agrees with the answers learnt: it is absent, not learnt yet, or the answer
-  abbrev pub agreesAt : (ℕ → ℕ) → ℕ → ℕ → Bool
-  agreesAt answers j d = eqb d 0 || eqb (answers j) 0 || eqb d (answers j)
 
   -- 20.4: a label agrees: it is plain, and each of its digits does
   unfoldable pub agrees : (ℕ → ℕ) → ℕ → Bool
@@ -83,13 +88,14 @@ module _ (P : Plan) where
   due situation s i = executed s (P .activation i) && not (executed s (P .finish i)) && leb (s .time (P .activation i) + situation i) (s .now)
 
   module _ (T : List ℕ) where
-    -- 20.6: the line of point x with this set and label holds it back no more, if the links of D are left out: it does not agree, has a link of D, or has run out, late(D) ago
+    -- 20.6: the line of point x with this set and label does not hold it back, if the links of D are left out: it does not agree, has a link
+    -- of D, or has run out, late(D) ago
     unfoldable pub runOut : State → (ℕ → ℕ) → ℕ → ℕ → ℕ → ℕ → Bool
     runOut s answers x D set label =
         not (agrees answers label) || not (disjoint D set)
         || leb (getD T (cellOf P (record { point = x; set = set; label = label; wait = 0 })) 0 + late s D) (s .now)
 
-    -- 20.6: no line of point x holds it back, the starting line neither, if the links of D are left out, which have ended
+    -- 20.6: the links of D have ended, and if they are left out no line of point x holds it back, the starting line neither
     unfoldable pub goesBy : State → (ℕ → ℕ) → ℕ → ℕ → Bool
     goesBy s answers x D =
         ended s D && leb (late s D) (s .now)
@@ -101,10 +107,10 @@ module _ (P : Plan) where
         ltb x (P .points) && not (executed s x) && differs (P .finish) x (P .links)
         && ltb (first (goesBy s answers x) (2 ^ P .links)) (2 ^ P .links)
 
-    module _ (prefer : State → ℕ) where
+    module _ (prefer : Preference) where
       -- 20.7: the point to come: the one preferred if it may come, else the first that may
       unfoldable pub chosen : State → (ℕ → ℕ) → ℕ
-      chosen s answers = cond (ready s answers (prefer s)) (prefer s) (first (ready s answers) (P .points))
+      chosen s answers = cond (ready s answers (prefer s answers)) (prefer s answers) (first (ready s answers) (P .points))
 
       -- 20.8: one step: an end that is due comes, link i's; if none is, a point that may come; if none may, a second passes
       unfoldable pub act : State → (ℕ → ℕ) → ℕ → State
@@ -132,8 +138,9 @@ module _ (P : Plan) where
       (cond (differs (P .observer) x (P .propositions)) (suc (P .propositions)) (suc (count (λ j. ltb (s .step (P .observer j)) (s .step x)) (P .propositions))))
       0
 
--- 20.10: a panel that follows the table keeps the plan, whatever the durations: every point comes, and the times and positions are those of a panel
-pub record Followed (P : Plan) (T : List ℕ) (prefer : State → ℕ) : Type 0 where
+-- 20.10: a panel that follows the table keeps the plan, whatever the durations: every point comes, and the times and positions are those of
+-- a panel that does
+pub record Followed (P : Plan) (T : List ℕ) (prefer : Preference) : Type 0 where
   pub all-come : (r : Drama P AnyDuration) (x : ℕ) → x < P .points → Is (executed (final P T prefer r) x)
   pub panel : Panel 1 P AnyDuration
   pub its-time : (r : Drama P AnyDuration) (x : ℕ) → panel .strategy .time r x ≡ final P T prefer r .time x
