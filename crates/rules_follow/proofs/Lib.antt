@@ -1,14 +1,14 @@
-pub mod Searching
-pub mod Lateness
+mod Searching
+mod Lateness
 pub mod TableLines
-pub mod LinkChains
-pub mod Stepping
-pub mod KnownDigits
-pub mod Spreading
-pub mod KeptEdges
-pub mod GoingBy
-pub mod Invariant
-pub mod Runs
-pub mod Positions
-pub mod Reacting
+mod LinkChains
+mod Stepping
+mod KnownDigits
+mod Spreading
+mod KeptEdges
+mod GoingBy
+mod Invariant
+mod Runs
+mod Positions
+mod Reacting
 pub mod Followed
