@@ -3,11 +3,11 @@
 //! plans and listings to run them on.
 
 pub mod compare;
+pub mod following;
 pub mod game;
 pub mod generate;
 pub mod library;
 pub mod port;
-pub mod rule;
 pub mod second;
 pub mod tally;
 

@@ -3,15 +3,15 @@
 //! kept.
 
 use std::collections::HashMap;
-use std::fmt;
 use std::fs;
 use std::path::PathBuf;
+use std::{fmt, iter};
+use sulgrach_tests::following::{dramas, keeps, reacts_to_what_is_seen, Drama, Panel, Rule, Run};
 use sulgrach_tests::game::{passes_every_column, read, won, Durations};
 use sulgrach_tests::game::{won_with_answers_told, won_with_durations_told};
 use sulgrach_tests::generate::{hex, Draft, Random};
 use sulgrach_tests::library::header::{SULGRACH_LISTING, SULGRACH_ROUNDS};
 use sulgrach_tests::library::{self, refused, BROKEN, KEPT};
-use sulgrach_tests::rule::{dramas, keeps, reacts_to_what_is_seen, Drama, Panel, Rule, Run};
 use sulgrach_tests::second::{self, run_and_list, Edge, Link, Plan, MOST_LINES};
 use sulgrach_tests::{plan_files, times};
 
@@ -263,14 +263,17 @@ fn written_plans_followed() {
         let before = followed.wrong;
         let kept = followed.follow_or_list(&plan_of(name), format_args!("{name}"));
         assert_eq!(kept, said_to_be_kept(name), "{name}");
-        let broken_by = [0, 1, 2].map(|rule| followed.wrong[rule] > before[rule]);
+        let broken_by: Vec<bool> = iter::zip(followed.wrong, before).map(|(now, then)| now > then).collect();
         let late = LATENESS_DECIDES.contains(&name);
         assert_eq!(broken_by, [late, late, late || ANSWERS_DECIDE.contains(&name)], "{name}");
     }
     println!("written_plans_followed: {} dramas, each in three orders: {followed:?}", followed.dramas);
-    assert!(followed.kept >= 10 && followed.broken >= 9, "{followed:?}");
+    assert!(followed.kept >= 11 && followed.broken >= 9, "{followed:?}");
     assert_eq!(followed.listed, followed.broken, "{followed:?}");
     assert!(followed.kept_with_durations_between >= 7 && followed.dramas > 100_000, "{followed:?}");
+    assert!(followed.kept_and_dramas_compared >= 6, "{followed:?}");
+    let named = (LATENESS_DECIDES.len() as u64, ANSWERS_DECIDE.len() as u64);
+    assert_eq!(followed.wrong, [named.0, named.0, named.0 + named.1], "a plan that is named is missing");
 }
 
 /// The plans that README.md names: every wrong rule breaks rows of the first,
@@ -281,7 +284,7 @@ const ANSWERS_DECIDE: [&str; 2] = ["c10", "ramp-quick"];
 const WRONG: [Rule; 3] = [Rule::ForgetsLateness, Rule::ForgetsLongest, Rule::BeforeAnswers];
 
 /// Dramas are compared with each other where a plan has no more than these.
-const MOST_COMPARED: usize = 60;
+const MOST_COMPARED: usize = 100;
 
 #[derive(Debug, Default)]
 struct Followed {
@@ -299,7 +302,8 @@ struct Followed {
 }
 
 impl Followed {
-    /// Whether the plan is kept. If it is broken, there has to be a listing.
+    /// Whether the plan is kept. If it is broken, there has to be a listing, unless
+    /// it would be too long.
     fn follow_or_list(&mut self, plan: &Draft, origin: fmt::Arguments) -> bool {
         let kept = self.follow(plan, origin);
         let shown = || format!("{origin}, bytes {}", hex(&plan.bytes()));
@@ -378,9 +382,9 @@ fn follows_table(plan: &Plan, table: &[u32], dramas: &[Drama], compared: bool, s
         let runs: Vec<Run> = dramas.iter().map(run).collect();
         let reacts = !compared || reacts_to_what_is_seen(plan, dramas, &runs);
         assert!(reacts, "first of {preference:?}, {}", shown());
-        let now: Vec<Vec<i64>> = runs.into_iter().map(|run| run.times).collect();
-        assert!(times.is_empty() || times == now, "first of {preference:?}, {}", shown());
-        times = now;
+        let times_now: Vec<Vec<i64>> = runs.into_iter().map(|run| run.times).collect();
+        assert!(times.is_empty() || times == times_now, "first of {preference:?}, {}", shown());
+        times = times_now;
     }
     let minds_more = Panel::new(plan, table, Rule::CountsUnknown);
     let [lowest, ..] = preferences(plan.points);
@@ -401,7 +405,7 @@ fn breaks_a_row(panel: &Panel, plan: &Plan, dramas: &[Drama]) -> bool {
 }
 
 /// Whether the plan's listing is handed over, as it is unless it has too many
-/// lines. Replay then has to accept it.
+/// lines. Replay has to accept one that is handed over.
 fn has_listing(plan: &Draft, shown: &dyn Fn() -> String) -> bool {
     let (mut first, mut second) = (vec![0; cells(plan)], vec![0; cells(plan)]);
     let (mut index, mut out) = (vec![0; cells(plan)], vec![0; SULGRACH_LISTING as usize]);
@@ -429,7 +433,9 @@ fn quick_ramp_followed() {
         assert_eq!(times_by(Rule::Right, &plan, 2, &[down]), [0, down, down, down]);
     }
     // Started without the answer, the jet fans do not wait for 180 s.
-    assert_eq!(times_by(Rule::BeforeAnswers, &plan, 1, &[30]), [0, 30, 30, 30]);
+    let early = times_by(Rule::BeforeAnswers, &plan, 1, &[30]);
+    assert_eq!(early, [0, 30, 30, 30]);
+    assert!(!keeps(&accepted(&plan), &Drama { scenario: 1, situation: vec![30] }, &early));
 }
 
 /// A fan at least 1 s after a damper that takes 1 to 3 s has opened: with the
@@ -476,18 +482,21 @@ fn times_by(rule: Rule, draft: &Draft, scenario: u8, situation: &[i64]) -> Vec<i
     run.expect("no point is left out").times
 }
 
-/// Two links, each from the other's end, never start, whatever the table.
+/// Two links, each from the other's end, never start; and a point that waits
+/// until after the horizon counts as left out.
 #[test]
 fn points_left_out() {
     let link = |activation, end| Link { activation, end, least: 1, most: 2 };
-    let links = vec![link(1, 2), link(2, 1)];
-    let draft = Draft { points: 4, observing: vec![], links, edges: vec![] };
-    let plan = accepted(&draft);
-    let drama = Drama { scenario: 0, situation: vec![1, 2] };
-    for wait in [0, 1, 100] {
+    let left_out = |links: Vec<Link>, wait: u32| {
+        let situation = links.iter().map(|link| link.least).collect();
+        let plan = accepted(&Draft { points: 4, observing: vec![], links, edges: vec![] });
         let table = vec![wait; plan.cells()];
-        assert_eq!(Panel::new(&plan, &table, Rule::Right).run(&drama, &[0, 1, 2, 3]), None, "{wait}");
-    }
+        let drama = Drama { scenario: 0, situation };
+        Panel::new(&plan, &table, Rule::Right).run(&drama, &[0, 1, 2, 3]).is_none()
+    };
+    assert!(left_out(vec![link(1, 2), link(2, 1)], 0) && left_out(vec![link(1, 2), link(2, 1)], 1));
+    assert!(!left_out(vec![link(1, 2)], 0) && !left_out(vec![link(1, 2)], 1));
+    assert!(left_out(vec![link(1, 2)], 100));
 }
 
 /// Point 0 at another second, or a link that does not take its duration.

@@ -15,8 +15,8 @@ use Rattle.rules.specs.declared.Line.{Line}
 use Rattle.rules.specs.Lines.{lineAt}
 use Rattle.rules.specs.Tables.{next}
 use Rattle.rules.proofs.Cells.{cell-at}
+use Rattle.rules.proofs.FirstAlarm.{width-le}
 use Rattle.rules_fill.specs.Parts.{laidOver}
-use Rattle.rounds.proofs.Verdict.{width-le}
 use Rattle.replay.specs.Listings.{lineCount}
 use Rattle.listing_lines.specs.Listed.{table, raisedLines, linesTo, lowestRaised, listingLines, indexTable, BreaksIn}
 use Rattle.listing_lines.specs.Handed.{Listing}

@@ -154,7 +154,7 @@ of-insert s i k h = go (of-union s (2 ^ i) k h)
     go (inl t) = inl t
     go (inr t) = inr (power-digit i k (eqb→eq _ _ t))
 
-pub remove-own-not : (s i : ℕ) → Is (contains (remove s i) i) → ⊥
+remove-own-not : (s i : ℕ) → Is (contains (remove s i) i) → ⊥
 unfolding remove contains digitOf
 remove-own-not s i h = go (contains s i) refl h
   where
@@ -178,7 +178,7 @@ pub insert-in : (k s i : ℕ) → s < 2 ^ k → i < k → insert s i < 2 ^ k
 unfolding insert union
 insert-in k s i h l = or-lt k s (2 ^ i) h (pow-lt l)
 
-pub remove-le : (s i : ℕ) → remove s i ≤ s
+remove-le : (s i : ℕ) → remove s i ≤ s
 unfolding remove
 remove-le s i = go (contains s i)
   where
@@ -188,3 +188,30 @@ remove-le s i = go (contains s i)
 
 pub remove-in : (k s i : ℕ) → s < 2 ^ k → remove s i < 2 ^ k
 remove-in k s i h = omega (arith, remove-le s i)
+
+-- ---- two digits joined
+join-zero : (d : ℕ) → joinDigit d 0 ≡ d
+unfolding joinDigit
+join-zero d = go (ℕ-discrete d 0)
+  where
+    go : Dec (d ≡ 0) → joinDigit d 0 ≡ d
+    go (yes e) = rw e
+    go (no e) = rw (ne-eqb d 0 e)
+
+zero-join : (d : ℕ) → joinDigit 0 d ≡ d
+unfolding joinDigit
+zero-join d = refl
+
+join-same : (d : ℕ) → joinDigit d d ≡ d
+unfolding joinDigit
+join-same d = go (ℕ-discrete d 0)
+  where
+    go : Dec (d ≡ 0) → joinDigit d d ≡ d
+    go (yes e) = rw e
+    go (no e) = rw (ne-eqb d 0 e, eq-eqb d d refl)
+
+-- what holds of two digits holds of their join, if each is absent or v
+pub join-one : (Q : ℕ → Type 0) (v d e : ℕ) → (d ≡ 0) ⊎ (d ≡ v) → (e ≡ 0) ⊎ (e ≡ v) → Q d → Q e → Q (joinDigit d e)
+join-one Q v d e (inl p) q a b = subst Q (sym (ap (λ (x : ℕ). joinDigit x e) p ∙ zero-join e)) b
+join-one Q v d e (inr p) (inl q) a b = subst Q (sym (ap (joinDigit d) q ∙ join-zero d)) a
+join-one Q v d e (inr p) (inr q) a b = subst Q (sym (ap (joinDigit d) (q ∙ sym p) ∙ join-same d)) a

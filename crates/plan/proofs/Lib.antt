@@ -1,4 +1,5 @@
 mod Bases
+pub mod Truth
 pub mod CountLaws
 pub mod LabelLaws
 pub mod Digits

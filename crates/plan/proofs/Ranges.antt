@@ -6,8 +6,8 @@ use Prim.Native.Nat.{ℕ, zero, suc, _*_, _^_, _≤_, _<_, max}
 use native.Mathlib.Nat.{le-refl, le-trans, mul-le-mul, le-max-left, le-max-right}
 use native.Mathlib.Decide.{ℕ-discrete, decLt}
 use native.Mathlib.Omega.{arith}
-use lib.Dec.{T as Is, ltb, eqb, T-not, ltb→lt, leb→le, eqb→eq}
-use lib.Ieee.Fits.{and-l, and-r, eq→eqb}
+use lib.Dec.{T as Is, ltb, eqb, T-not, ltb→lt, leb→le, eqb→eq, not-T}
+use lib.Ieee.Fits.{and-l, and-r, and-i, eq→eqb}
 use lib.ListN.{length}
 use Rattle.plan.specs.Label.{plain}
 use Rattle.plan.specs.Plan.{Plan, cells}
@@ -54,9 +54,18 @@ every-at f (suc n) i t h = go (every-at f n i (and-l (every f n) (f n) t)) (ℕ-
     go r (yes e) = rw e (and-r (every f n) (f n) t)
     go r (no e) = r (omega arith)
 
+pub every-of : (f : ℕ → Bool) (n : ℕ) → ((i : ℕ) → i < n → Is (f i)) → Is (every f n)
+unfolding every
+every-of f zero h = tt
+every-of f (suc n) h = and-i (every f n) (f n) (every-of f n (λ i k. h i (omega arith))) (h n (omega arith))
+
 pub differs-at : (f : ℕ → ℕ) (x n i : ℕ) → Is (differs f x n) → i < n → f i ≡ x → ⊥
 unfolding differs
 differs-at f x n i t h e = T-not (eqb (f i) x) (every-at (λ i. not (eqb (f i) x)) n i t h) (eq→eqb e)
+
+pub differs-of : (f : ℕ → ℕ) (x n : ℕ) → ((i : ℕ) → i < n → f i ≡ x → ⊥) → Is (differs f x n)
+unfolding differs
+differs-of f x n h = every-of (λ i. not (eqb (f i) x)) n (λ i k. not-T (eqb (f i) x) (λ t. h i k (eqb→eq (f i) x t)))
 
 -- no two of the first n numbers of f are equal, if each differs from those before it
 once : (f : ℕ → ℕ) (n : ℕ) → ((i : ℕ) → i < n → Is (differs f (f i) i)) → (i j : ℕ) → i < n → j < n → f i ≡ f j → i ≡ j

@@ -17,6 +17,7 @@ use Rattle.plan.specs.Plan.{Plan}
 use Rattle.plan.specs.Layout.{planOf}
 use Rattle.plan.specs.Refusal.{refusal}
 use Rattle.plan.proofs.Ranges.{accepted-well-formed}
+use Rattle.plan.proofs.Truth.{is-true, if-asked, asked}
 use Rattle.rules.specs.declared.Line.{Line}
 use Rattle.rules.specs.declared.Edge.the-variants.{PlanEdge, HorizonEdge, UpperBound, LowerBound}
 use Rattle.rules.specs.declared.Rule.{Rule}
@@ -33,24 +34,12 @@ use Rattle.replay.specs.Replaying.{laidOut, inRange, parentsKnown, follo
 use Rattle.replay.specs.Derives.{LineDerives, ListingDerives}
 
 -- ---- tests and the first refusal
-sure : (b : Bool) → Is b → b ≡ true
-sure true t = refl
-sure false t = absurd t
-
 equal : (m n : ℕ) → m ≡ n → Is (eqb m n)
 equal m n e = rw e (eqb-refl n)
-
-used : (u b : Bool) → Is (not u || b) → Is u → Is b
-used true b t h = t
-used false b t h = absurd h
 
 unused : (u b : Bool) → Is (u || b) → (Is u → ⊥) → Is b
 unused true b t h = absurd (h tt)
 unused false b t h = t
-
-if-used : (u b : Bool) → (Is u → Is b) → Is (not u || b)
-if-used true b f = f tt
-if-used false b f = tt
 
 if-unused : (u b : Bool) → ((Is u → ⊥) → Is b) → Is (u || b)
 if-unused true b f = tt
@@ -126,7 +115,7 @@ module _ (P : Plan) (bs : List ℕ) (i : ℕ) where
   unfolding parentsKnown
   known-by d =
       let x : Is (ltb (firstParent bs i) (P .points + i)) = lt→ltb _ _ (d .first-known) in
-      let y : Is (not (usesSecond (d .rule)) || ltb (secondParent bs i) (P .points + i)) = if-used (usesSecond (d .rule)) (ltb (secondParent bs i) (P .points + i)) (λ u. lt→ltb _ _ (d .second-known u)) in
+      let y : Is (not (usesSecond (d .rule)) || ltb (secondParent bs i) (P .points + i)) = asked (usesSecond (d .rule)) (ltb (secondParent bs i) (P .points + i)) (λ u. lt→ltb _ _ (d .second-known u)) in
       search and-i
 
   follow-by : (d : LineDerives P bs i) → Is (follows P bs i (d .rule))
@@ -153,7 +142,7 @@ module _ (P : Plan) (bs : List ℕ) (i : ℕ) where
         rule = r;
         named = q;
         first-known = ltb→lt (firstParent bs i) (P .points + i) (search and-l);
-        second-known = λ u. ltb→lt (secondParent bs i) (P .points + i) (used (usesSecond r) (ltb (secondParent bs i) (P .points + i)) (search (and-l, and-r)) u);
+        second-known = λ u. ltb→lt (secondParent bs i) (P .points + i) (if-asked (usesSecond r) (ltb (secondParent bs i) (P .points + i)) (search (and-l, and-r)) u);
         second-unused = λ u. eqb→eq (secondParent bs i) 0 (unused (usesSecond r) (eqb (secondParent bs i) 0) (search (and-l, and-r)) u);
         fire = g .0;
         gave = g .1;
@@ -169,10 +158,10 @@ module _ (P : Plan) (bs : List ℕ) (i : ℕ) where
   unfolding judgeLine
   derives-line d =
       rw (
-        sure (inRange P (headLine bs i)) (in-range-by P (headLine bs i) (d .point-in) (d .set-in) (d .label-in)),
+        is-true (inRange P (headLine bs i)) (in-range-by P (headLine bs i) (d .point-in) (d .set-in) (d .label-in)),
         d .named,
-        sure (parentsKnown P bs i (d .rule)) (known-by d),
-        sure (follows P bs i (d .rule)) (follow-by d),
+        is-true (parentsKnown P bs i (d .rule)) (known-by d),
+        is-true (follows P bs i (d .rule)) (follow-by d),
       )
 
 -- ---- all lines
@@ -222,11 +211,11 @@ module _ (plan bs : List ℕ) where
 
   last-by : ListingDerives plan bs → judgeLast (planOf plan) (headLine bs (lineCount bs - 1)) ≡ 0
   unfolding judgeLast
-  last-by d = rw (d .last-first-alarm, sure (plain (planOf plan .propositions) (headLine bs (lineCount bs - 1) .label)) (d .last-plain))
+  last-by d = rw (d .last-first-alarm, is-true (plain (planOf plan .propositions) (headLine bs (lineCount bs - 1) .label)) (d .last-plain))
 
   pub derives-replay : ListingDerives plan bs → replay plan bs ≡ 0
   unfolding replay judgeListing
-  derives-replay d = rw (d .accepted, sure (laidOut bs) (laid-by d), judged-lines (planOf plan) bs (lineCount bs) (λ i h. derives-line (planOf plan) bs i (d .lines-derive i h)), last-by d)
+  derives-replay d = rw (d .accepted, is-true (laidOut bs) (laid-by d), judged-lines (planOf plan) bs (lineCount bs) (λ i h. derives-line (planOf plan) bs i (d .lines-derive i h)), last-by d)
 
 -- ---- demand 3
 module _ (P : Plan) (bs : List ℕ) (some-point : 0 < P .points) where

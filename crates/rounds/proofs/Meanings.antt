@@ -13,21 +13,29 @@ use Rattle.plan.specs.Refusal.{mostSeconds, Accepted}
 use Rattle.plan.proofs.Ranges.{WellFormed, accepted-well-formed, accepted-bounded}
 use Rattle.rules.specs.Derivations.{SelfWait}
 use Rattle.rules.proofs.Next.{IsNext, next-is}
+use Rattle.rules.proofs.FirstAlarm.{Quiet}
 use Rattle.rules_panel.specs.Dramas.{AnyDuration}
 use Rattle.rules_panel.specs.Strategies.{Panel}
 use Rattle.rules_panel.proofs.Broken.{no-panel}
 use Rattle.rules_panel.proofs.FewerDurations.{none-for-any}
 use Rattle.rules_follow.specs.Following.{Preference, Followed}
 use Rattle.rules_follow.proofs.TableLines.{Closed}
-use Rattle.rules_follow.proofs.Followed.{FirstFree, closed-on, free-on, followed}
+use Rattle.rules_follow.proofs.Followed.{closed-on, quiet-on, followed}
 use Rattle.rounds_tables.proofs.Comparing.{same-eq}
 use Rattle.rounds.specs.Rounds.{tableFrom, zeros, firstAlarmWaits, stopsAt}
 use Rattle.rounds.specs.Outcomes.{Outcome, kept, broken, spent, refused, runOutcome, runTable}
-use Rattle.rounds.specs.Meaning.{IsKept, IsBroken, IsSpent, HoldsLongest, enoughRounds, servingLimit, Meaning}
+use Rattle.rounds.specs.Meaning.{IsKept, IsBroken, IsSpent, IsRefused, HoldsLongest, enoughRounds, servingLimit, Meaning}
 use Rattle.rounds.proofs.Small.{run-length}
 use Rattle.rounds.proofs.Stopping.{Running, running-less, tests-fail, one-holds, Stops, stops-or-runs, ends-broken, ends-kept, ends-spent}
 use Rattle.rounds.proofs.Sums.{sum, sum-lt, sum-bound}
 use Rattle.rounds.proofs.Verdict.{Inv, inv-table, self-wait, no-self-wait, holds-longest}
+
+-- an answer that is neither a refusal nor spent is a verdict
+verdict : (o : Outcome) → (IsRefused o → ⊥) → (IsSpent o → ⊥) → IsBroken o ⊎ IsKept o
+verdict (kept r) u n = inr tt
+verdict (broken r) u n = inl tt
+verdict (spent r) u n = absurd (n tt)
+verdict (refused k) u n = absurd (u tt)
 
 module _ (P : Plan) (wf : WellFormed P) where
   -- table(r) of the check
@@ -53,7 +61,7 @@ module _ (P : Plan) (wf : WellFormed P) where
   -- the table of a plan that is kept
   pub record Settled (A : List ℕ) : Type 0 where
     pub closed : Closed P A
-    pub free : FirstFree P A
+    pub quiet : Quiet P A
     pub longest : (c : ℕ) → c < cells P → HoldsLongest P c (getD A c 0)
     pub no-wait : SelfWait P → ⊥
 
@@ -64,12 +72,12 @@ module _ (P : Plan) (wf : WellFormed P) where
     pub decided : enoughRounds P ≤ limit → IsBroken o ⊎ IsKept o
 
   module _ (limit : ℕ) where
-    abbrev RunMeans : Type 0
-    RunMeans = RunSays limit (runOutcome P (zeros P) limit) (runTable P (zeros P) limit)
+    abbrev Says : Type 0
+    Says = RunSays limit (runOutcome P (zeros P) limit) (runTable P (zeros P) limit)
 
     -- round r + 1 is the first that stops
-    stops-mean : (r : ℕ) → r < limit → Running P (zeros P) r → stopsAt P (zeros P) (suc r) ≡ true → RunMeans
-    stops-mean r h g s = go (firstAlarmWaits P B) refl
+    stops-say : (r : ℕ) → r < limit → Running P (zeros P) r → stopsAt P (zeros P) (suc r) ≡ true → Says
+    stops-say r h g s = go (firstAlarmWaits P B) refl
       where
         A : List ℕ
         A = table r
@@ -83,7 +91,7 @@ module _ (P : Plan) (wf : WellFormed P) where
         n : IsNext P A B
         n = next-is P wf A (v .sized)
 
-        go : (b : Bool) → firstAlarmWaits P B ≡ b → RunMeans
+        go : (b : Bool) → firstAlarmWaits P B ≡ b → Says
         go true e =
             let w = self-wait P wf A B v n e in
             let d = ends-broken P (zeros P) limit r h g e in
@@ -93,20 +101,20 @@ module _ (P : Plan) (wf : WellFormed P) where
             let b : B ≡ A = sym (same-eq A B q) in
             let m : IsNext P A A = subst (IsNext P A) b n in
             let d = ends-kept P (zeros P) limit r h g e q in
-            rw (d .outcome-is, d .table-is ∙ b) (record { waits = λ x. absurd x; settled = λ k. record { closed = m .covers; free = v .quiet; longest = holds-longest P wf A v m; no-wait = no-self-wait P wf A v m }; decided = λ f. inr tt })
+            rw (d .outcome-is, d .table-is ∙ b) (record { waits = λ x. absurd x; settled = λ k. record { closed = m .covers; quiet = v .quiet; longest = holds-longest P wf A v m; no-wait = no-self-wait P wf A v m }; decided = λ f. inr tt })
 
     -- no round up to the limit stops, so that it is not enough
-    limit-means : Running P (zeros P) limit → RunMeans
-    limit-means g =
+    limit-says : Running P (zeros P) limit → Says
+    limit-says g =
         let d = ends-spent P (zeros P) limit g in
         rw (d .outcome-is, d .table-is) (record { waits = λ x. absurd x; settled = λ x. absurd x; decided = λ h. absurd (omega (arith, running-bound limit g)) })
 
-    pub run-means : RunMeans
-    run-means = go (stops-or-runs P (zeros P) limit)
+    pub run-says : Says
+    run-says = go (stops-or-runs P (zeros P) limit)
       where
-        go : ((r : ℕ) × Stops P (zeros P) limit r) ⊎ Running P (zeros P) limit → RunMeans
-        go (inl (r, s)) = stops-mean (s .before) (s .within) (s .runs) (s .here)
-        go (inr g) = limit-means g
+        go : ((r : ℕ) × Stops P (zeros P) limit r) ⊎ Running P (zeros P) limit → Says
+        go (inl (r, s)) = stops-say (s .before) (s .within) (s .runs) (s .here)
+        go (inr g) = limit-says g
 
   -- so the meaning of the answer (15), of any two tables that begin with this one
   module _ (limit : ℕ) (o : Outcome) (A : List ℕ) (says : RunSays limit o A) where
@@ -126,11 +134,15 @@ module _ (P : Plan) (wf : WellFormed P) where
 
     module _ (whole : length A ≡ cells P) where
       follows : IsKept o → (F : List ℕ) (prefer : Preference) → Followed P (A ++ F) prefer
-      follows k F prefer = let t = says .settled k in followed wf (closed-on wf A F whole (t .closed)) (free-on wf A F whole (t .free)) prefer
+      follows k F prefer = let t = says .settled k in followed wf (closed-on wf A F whole (t .closed)) (quiet-on wf A F whole (t .quiet)) prefer
 
       -- kept exactly when a panel can
-      kept-exactly : enoughRounds P ≤ limit → IsKept o ↔ Panel 1 P AnyDuration
-      kept-exactly h = (λ k. follows k [] (λ s answers. 0) .panel, λ p. kept-if h (λ w. none-for-any (no-panel P wf w) 1 (omega arith) p))
+      kept-exactly : (IsRefused o → ⊥) → (IsSpent o → ⊥) → IsKept o ↔ Panel 1 P AnyDuration
+      kept-exactly u n = (λ k. follows k [] (λ s answers. 0) .panel, go (verdict o u n))
+        where
+          go : IsBroken o ⊎ IsKept o → Panel 1 P AnyDuration → IsKept o
+          go (inl b) p = absurd (none-for-any (no-panel P wf (says .waits b)) 1 (omega arith) p)
+          go (inr k) p = k
 
       pub means : (F G : List ℕ) → Meaning P limit o (A ++ F) (A ++ G)
       means F G = record {
@@ -143,7 +155,7 @@ module _ (P : Plan) (wf : WellFormed P) where
         second-followed = λ k. follows k G;
         broken-if = λ u. broken-if;
         kept-if = λ u. kept-if;
-        kept-exactly = λ u. kept-exactly;
+        kept-exactly = kept-exactly;
       }
 
 -- a refusal says nothing of the plan
@@ -168,7 +180,7 @@ serving-is = refl
 -- ---- over the bytes of a plan
 module _ (bs : List ℕ) (accepted : Accepted bs) where
   pub run-means-bytes : (limit : ℕ) (F G : List ℕ) → Meaning (planOf bs) limit (runOutcome (planOf bs) (zeros (planOf bs)) limit) (runTable (planOf bs) (zeros (planOf bs)) limit ++ F) (runTable (planOf bs) (zeros (planOf bs)) limit ++ G)
-  run-means-bytes limit = means (planOf bs) wf limit (runOutcome (planOf bs) (zeros (planOf bs)) limit) (runTable (planOf bs) (zeros (planOf bs)) limit) (run-means (planOf bs) wf limit) (run-length (planOf bs) wf (zeros (planOf bs)) (length-replicate (cells (planOf bs)) 0) limit)
+  run-means-bytes limit = means (planOf bs) wf limit (runOutcome (planOf bs) (zeros (planOf bs)) limit) (runTable (planOf bs) (zeros (planOf bs)) limit) (run-says (planOf bs) wf limit) (run-length (planOf bs) wf (zeros (planOf bs)) (length-replicate (cells (planOf bs)) 0) limit)
     where
       wf : WellFormed (planOf bs)
       wf = accepted-well-formed bs accepted

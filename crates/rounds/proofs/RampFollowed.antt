@@ -14,7 +14,7 @@ use Rattle.rules.specs.Lines.{below}
 use Rattle.rules.specs.Tables.{raiseCell, next}
 use Rattle.rules_panel.specs.Dramas.{AnyDuration, Drama}
 use Rattle.rules_panel.proofs.RampQuick.{rampQuick}
-use Rattle.rules_follow.specs.Following.{first, sumOver, Preference, agrees, ended, disjoint, runOut, goesBy, ready, chosen, act, run, final, Followed}
+use Rattle.rules_follow.specs.Following.{first, sumOver, Preference, agrees, ended, disjoint, holdsBack, goesBy, ready, chosen, act, run, final, Followed}
 use Rattle.rounds.specs.Rounds.{zeros}
 use Rattle.rounds.specs.Outcomes.{kept, runOutcome, runTable}
 use Rattle.rounds.specs.Meaning.{IsKept}
@@ -54,5 +54,5 @@ timesIn b = map (final P waits (λ s answers. 0) (takes40 b) .time) (below 4)
 
 -- alarm, shutter down, poll, jets: by computation
 played : (timesIn true ≡ 0 ∷ 40 ∷ 40 ∷ 180 ∷ []) × (timesIn false ≡ 0 ∷ 40 ∷ 40 ∷ 40 ∷ [])
-unfolding byteAt wordAt digit plain contains endsAt dataAt edgeRow upOf downOf greatest mostAt downAt largestOf planOf every differs first sumOver agrees ended disjoint runOut goesBy ready chosen act run takes40
+unfolding byteAt wordAt digit plain contains endsAt dataAt edgeRow upOf downOf greatest mostAt downAt largestOf planOf every differs first sumOver agrees ended disjoint holdsBack goesBy ready chosen act run takes40
 played = (refl, refl)

@@ -16,6 +16,7 @@ use Rattle.plan.specs.Refusal.{Accepted}
 use Rattle.plan.proofs.Ranges.{WellFormed, accepted-well-formed, accepted-bounded}
 use Rattle.rules.specs.Tables.{next}
 use Rattle.rules_fill.specs.Parts.{nextCells, part, AtMost, laidOver}
+use Rattle.rules.proofs.FirstAlarm.{width-le}
 use Rattle.rounds_sources.specs.PointSets.{allPoints}
 use Rattle.rounds_sources.specs.Sources.{sourceSets, Unaffected}
 use Rattle.rounds_sources.proofs.SourceLaws.{sets-length}
@@ -30,7 +31,6 @@ use Rattle.rounds.specs.Outcomes.{Outcome, kept, broken, spent, pick, ru
 use Rattle.rounds.specs.Runs.{RoomFrom, RoundMade, Ran}
 use Rattle.rounds.proofs.Stopping.{Running, Ends, running-none, running-more, stops-by, rounds-none, ends-at, ends-spent}
 use Rattle.rounds.proofs.Small.{from-length}
-use Rattle.rounds.proofs.Verdict.{width-le}
 
 -- ---- a list of n cells laid over a table
 module _ (n : ℕ) (A L : List ℕ) (sized : length A ≡ n) where

@@ -4,7 +4,7 @@ use mathlib.Core.Bool.{true, false}
 use mathlib.Core.Logic.{_⊎_, inl, inr}
 use mathlib.Core.List.{List}
 use Prim.Native.Nat.{ℕ, zero, suc, _+_, _^_, _≤_, _<_}
-use native.Mathlib.Nat.{le-trans, le-suc, mul-le-mul-right, mul-comm, div-div-eq-div-mul, div-eq-of-lt}
+use native.Mathlib.Nat.{le-trans, mul-comm, div-div-eq-div-mul, div-eq-of-lt}
 use native.Mathlib.Decide.{decLe}
 use native.Mathlib.Omega.{arith}
 use lib.Dec.{T as Is}
@@ -20,11 +20,12 @@ use Rattle.rules.specs.Derivations.{Given, Reaches, SelfWait}
 use Rattle.rules.proofs.Deriving.{Reached}
 use Rattle.rules.proofs.Cells.{cell-lt, cell-at, at-range}
 use Rattle.rules.proofs.Next.{Cell, IsNext, next-is}
+use Rattle.rules.proofs.FirstAlarm.{Quiet, first-cell, quiet-no-line, width-le}
 use Rattle.rules.proofs.Sound.{next-cases, Sound, sound-next, complete}
 use Rattle.rounds_tables.proofs.Comparing.{none-above, some-above}
 use Rattle.rounds.specs.Rounds.{tableFrom, zeros, firstAlarmWaits}
 use Rattle.rounds.specs.Meaning.{HoldsLongest}
-use Rattle.rounds.proofs.Bound.{Quiet, Low, first-cell, quiet-no-line, given-plain, low-next, high-next}
+use Rattle.rounds.proofs.Bound.{Low, given-plain, low-next, high-next}
 use Rattle.rounds.proofs.Stopping.{Running, running-less, tests-fail}
 
 module _ (P : Plan) (wf : WellFormed P) where
@@ -38,9 +39,6 @@ module _ (P : Plan) (wf : WellFormed P) where
 
   pub cell-line : (A : List ℕ) (c : ℕ) → c < cells P → 0 < getD A c 0 → Cell P A (lineAt P A c)
   cell-line A c h k = record { inside = at-range P A c h; above = k; holds = ap (λ (x : ℕ). getD A x 0) (cell-at P A c) }
-
-  pub width-le : width P ≤ cells P
-  width-le = omega (arith, mul-le-mul-right (width P) (le-trans (le-suc 1) (wf .two)))
 
   pub first-point : (A : List ℕ) (c : ℕ) → c < width P → lineAt P A c .point ≡ 0
   first-point A c h = div-div-eq-div-mul c (4 ^ P .propositions) (2 ^ P .links) ∙ div-eq-of-lt (rw (mul-comm (4 ^ P .propositions) (2 ^ P .links)) h)
@@ -63,7 +61,7 @@ module _ (P : Plan) (wf : WellFormed P) where
   no-line l c = omega (arith, zero-at (cellOf P l) (cell-lt P l (c .inside)), c .holds, c .above)
 
   inv-zeros : Inv (zeros P)
-  inv-zeros = record { sized = length-replicate (cells P) 0; sound = λ l c. absurd (no-line l c); quiet = λ c h. zero-at c (le-trans h width-le); low = λ l c u. absurd (no-line l c); high = λ c h. omega (arith, zero-at c h) }
+  inv-zeros = record { sized = length-replicate (cells P) 0; sound = λ l c. absurd (no-line l c); quiet = λ c h. zero-at c (le-trans h (width-le P wf)); low = λ l c u. absurd (no-line l c); high = λ c h. omega (arith, zero-at c h) }
 
   pub inv-table : (r : ℕ) → Running P (zeros P) r → Inv (tableFrom P (zeros P) r)
   inv-table zero g = inv-zeros
@@ -79,7 +77,7 @@ module _ (P : Plan) (wf : WellFormed P) where
       let t = some-above (take (width P) B) e in
       let c = t .0 in
       let small : c < width P = omega (arith, t .1, length-take (width P) B) in
-      let in-table : c < cells P = le-trans small width-le in
+      let in-table : c < cells P = le-trans small (width-le P wf) in
       let high : 0 < getD B c 0 = rw (getD-take (width P) B c 0 small) at (t .2) in
       let h : Cell P B (lineAt P B c) = cell-line B c in-table high in
       let r = sound-next P wf A B n (v .sound) (lineAt P B c) h in

@@ -48,8 +48,8 @@ enoughRounds P = cells P * (P .horizon + P .largest + 1) + 1
 abbrev pub servingLimit : ℕ
 servingLimit = 15571369985
 
--- 15.1, 15.2, 15.4, 15.6, 15.7: broken and kept say what they mean whatever the limit, and with enough rounds a plan that is not refused gets one of them:
--- kept exactly when a panel can keep it. Either table, followed, is such a panel
+-- 15.1, 15.2, 15.4, 15.6, 15.7: broken and kept say what they mean whatever the limit, and with enough rounds a plan that is not refused gets one of them.
+-- Where it does, it is kept exactly when there is a panel that keeps it; following either table is such a panel
 pub record Meaning (P : Plan) (limit : ℕ) (o : Outcome) (first second : List ℕ) : Type 0 where
   pub broken-then : IsBroken o → SelfWait P
   pub broken-no-panel : IsBroken o → NoPanel P
@@ -60,4 +60,4 @@ pub record Meaning (P : Plan) (limit : ℕ) (o : Outcome) (first second : List �
   pub second-followed : IsKept o → (prefer : Preference) → Followed P second prefer
   pub broken-if : (IsRefused o → ⊥) → enoughRounds P ≤ limit → SelfWait P → IsBroken o
   pub kept-if : (IsRefused o → ⊥) → enoughRounds P ≤ limit → (SelfWait P → ⊥) → IsKept o
-  pub kept-exactly : (IsRefused o → ⊥) → enoughRounds P ≤ limit → IsKept o ↔ Panel 1 P AnyDuration
+  pub kept-exactly : (IsRefused o → ⊥) → (IsSpent o → ⊥) → IsKept o ↔ Panel 1 P AnyDuration

@@ -4,5 +4,6 @@ pub mod InRange
 pub mod Monotone
 pub mod Cells
 pub mod Next
+pub mod FirstAlarm
 pub mod Sound
 pub mod Growth

@@ -15,6 +15,7 @@ use borrow.Author.Tests.{ne-eqb}
 use Rattle.plan.specs.Plan.{Plan, width, cells}
 use Rattle.plan.proofs.LabelLaws.{four-pos}
 use Rattle.plan.proofs.Ranges.{WellFormed}
+use Rattle.plan.proofs.Truth.{or-of, or-right}
 use Rattle.rules.specs.declared.Line.{Line}
 use Rattle.rules.specs.declared.Edge.the-variants.{PlanEdge, HorizonEdge, UpperBound, LowerBound}
 use Rattle.rules.specs.declared.Rule.{Rule}
@@ -104,14 +105,6 @@ pub record Row (P : Plan) (A : List ℕ) (x c w : ℕ) : Type 0 where
   pub row : InPlan P rule
   pub pair : Pair P A x rule c w
 
-or-split : (a b : Bool) → Is (a || b) → Is a ⊎ Is b
-or-split true b t = inl tt
-or-split false b t = inr t
-
-pub or-r : (a b : Bool) → Is b → Is (a || b)
-or-r true b t = tt
-or-r false b t = t
-
 module _ (P : Plan) (wf : WellFormed P) (A : List ℕ) (len : length A ≡ cells P) where
   -- places and cells
   pub cell-place : (l : Line) → cellOf P l ≡ l .point * width P + place P l
@@ -132,7 +125,7 @@ module _ (P : Plan) (wf : WellFormed P) (A : List ℕ) (len : length A ≡ cells
     where
       go : Dec (1 ≤ waitAt P A y t) → Parent P (Cell P A) (lineOf P A y t)
       go (yes w) = inr (record { inside = line-range y t h k; above = w; holds = ap (λ (c : ℕ). getD A c 0) (cell-place (lineOf P A y t) ∙ ap (λ (s : ℕ). y * width P + s) (line-place y t)) })
-      go (no w) = inl (first (or-split (eqb t 0) (ltb 0 (waitAt P A y t)) i))
+      go (no w) = inl (first (or-of (eqb t 0) (ltb 0 (waitAt P A y t)) i))
         where
           first : Is (eqb t 0) ⊎ Is (ltb 0 (waitAt P A y t)) → Starting P (lineOf P A y t)
           first (inl z) = let e : t ≡ 0 = eqb→eq t 0 z in starts h (rw e (zero-div _)) (rw e (zero-mod _)) (omega arith)
@@ -149,7 +142,7 @@ module _ (P : Plan) (wf : WellFormed P) (A : List ℕ) (len : length A ≡ cells
 
   found : (l : Line) → Parent P (Cell P A) l → Found l
   found l (inl s) = record { place-of = 0; place-in = one-le-mul (pow-pos _) (four-pos _); is-line = tt; to = waitAt P A (l .point) 0; no-less = omega (arith, no-wait s); line-is = λ i. record { point = l .point; set = (zero-div (4 ^ P .propositions) ∙ sym (no-set s)) i; label = (zero-mod (4 ^ P .propositions) ∙ sym (no-label s)) i; wait = waitAt P A (l .point) 0 } }
-  found l (inr c) = record { place-of = place P l; place-in = place-lt l (c .inside); is-line = or-r (eqb (place P l) 0) (ltb 0 (waitAt P A (l .point) (place P l))) (lt→ltb 0 (waitAt P A (l .point) (place P l)) (rw held (c .above))); to = l .wait; no-less = le-refl _; line-is = λ i. record { point = l .point; set = digit-div (l .set) (4 ^ P .propositions) (l .label) (c .inside .label-in) i; label = digit-mod (l .set) (4 ^ P .propositions) (l .label) (c .inside .label-in) i; wait = held i } }
+  found l (inr c) = record { place-of = place P l; place-in = place-lt l (c .inside); is-line = or-right (eqb (place P l) 0) (ltb 0 (waitAt P A (l .point) (place P l))) (lt→ltb 0 (waitAt P A (l .point) (place P l)) (rw held (c .above))); to = l .wait; no-less = le-refl _; line-is = λ i. record { point = l .point; set = digit-div (l .set) (4 ^ P .propositions) (l .label) (c .inside .label-in) i; label = digit-mod (l .set) (4 ^ P .propositions) (l .label) (c .inside .label-in) i; wait = held i } }
     where
       held : waitAt P A (l .point) (place P l) ≡ l .wait
       held = ap (λ (x : ℕ). getD A x 0) (sym (cell-place l)) ∙ c .holds

@@ -14,6 +14,7 @@ use Rattle.plan.specs.LinkSet.{contains, insert, remove}
 use Rattle.plan.specs.Plan.{Plan}
 use Rattle.plan.proofs.LabelLaws.{four-pos, join-lt, clear-le}
 use Rattle.plan.proofs.Places.{link-test, digit-test, plain-test, or-label, or-link, or-places, clear-link, clear-place}
+use Rattle.plan.proofs.Truth.{or-right}
 use Rattle.rules.specs.declared.Edge.{Edge}
 use Rattle.rules.specs.declared.Rule.{Rule}
 use Rattle.rules.specs.declared.Rule.the-variants.{Propagation, LowerCase, UpperCase, LetterRemoval, OwnLiteral, LiteralRemoval}
@@ -23,7 +24,7 @@ use Rattle.rules_fill.specs.Steps.{when}
 use Rattle.rules_fill.specs.Shapes.{linkBit, digitMask, labelMask, touches, cleared, weighed, isLine, isPlain, propagates, propagated, removed, removes}
 use Rattle.rules.proofs.Cells.{digit-mod}
 use Rattle.rules.proofs.Raising.{raise-none}
-use Rattle.rules_fill.proofs.PointLaws.{place, waitAt, gives, givenLine, pairStep, or-r, isLine as lineThere}
+use Rattle.rules_fill.proofs.PointLaws.{place, waitAt, gives, givenLine, pairStep, isLine as lineThere}
 
 -- ---- tests of places
 or-swap : (a b : Bool) → a || b ≡ b || a
@@ -227,7 +228,7 @@ module _ (P : Plan) (A : List ℕ) (x : ℕ) where
           let a : Is (lineThere P A (P .activation i) u) = search (and-l, and-r) in
           let b : Is on = search and-l in
           let c : Is off = search (and-l, and-r) in
-          let z : Is (lineThere P A x t) = or-r (eqb t 0) (ltb 0 w) (lt→ltb 0 w (omega arith)) in
+          let z : Is (lineThere P A x t) = or-right (eqb t 0) (ltb 0 w) (lt→ltb 0 w (omega arith)) in
           let f : Is (eqb (P .activation i) (P .activation i)) = eqb-refl (P .activation i) in
           let g : Is (eqb x x) = eqb-refl x in
           search and-i
@@ -252,7 +253,7 @@ module _ (P : Plan) (A : List ℕ) (x : ℕ) where
 
       back : Is test → 0 < w → Is (gives P A x (OwnLiteral j) t 0)
       back h k =
-          let a : Is (lineThere P A x t) = or-r (eqb t 0) (ltb 0 w) (lt→ltb 0 w k) in
+          let a : Is (lineThere P A x t) = or-right (eqb t 0) (ltb 0 w) (lt→ltb 0 w k) in
           let z : Is (lineThere P A 0 0) = tt in
           let f : Is (eqb x (P .observer j)) = eq→eqb (sym mine) in
           let g : Is (eqb x x) = eqb-refl x in
@@ -295,7 +296,7 @@ module _ (P : Plan) (A : List ℕ) (x : ℕ) where
           let a : Is (lineThere P A (P .observer j) u) = search (and-l, and-r) in
           let b : Is on = search and-l in
           let c : Is off = search (and-l, and-r) in
-          let z : Is (lineThere P A x t) = or-r (eqb t 0) (ltb 0 w) (lt→ltb 0 w (omega arith)) in
+          let z : Is (lineThere P A x t) = or-right (eqb t 0) (ltb 0 w) (lt→ltb 0 w (omega arith)) in
           let f : Is (eqb (P .observer j) (P .observer j)) = eqb-refl (P .observer j) in
           let g : Is (eqb x x) = eqb-refl x in
           let l : Is (ltb 0 v) = lt→ltb 0 v (omega arith) in

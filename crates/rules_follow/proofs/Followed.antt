@@ -2,37 +2,31 @@
 use mathlib.Core.Path.{_≡_, refl, sym, _∙_}
 use mathlib.Core.Logic.{inl, inr}
 use mathlib.Core.List.{List, _++_}
-use Prim.Native.Nat.{ℕ, _+_, _-_, _*_, _^_, _<_}
-use native.Mathlib.Nat.{le-trans, le-suc, mul-le-mul-right}
+use Prim.Native.Nat.{ℕ, _-_, _^_, _<_}
 use native.Mathlib.Omega.{arith}
 use lib.Dec.{lt→ltb}
 use lib.ListN.{length, getD, List·getD-append}
 use lib.Pow.{pow-pos}
-use Rattle.plan.specs.Layout.{greatest}
-use Rattle.plan.specs.Plan.{Plan, width, cells}
+use Rattle.plan.specs.Plan.{Plan, cells}
 use Rattle.plan.proofs.Ranges.{WellFormed}
 use Rattle.rules.specs.declared.Line.{Line}
 use Rattle.rules.specs.Lines.{cellOf}
-use Rattle.rules.specs.Derivations.{Given}
-use Rattle.rules.proofs.Cells.{digit-lt, cell-lt}
-use Rattle.rules.proofs.Deriving.{no-wait}
+use Rattle.rules.proofs.Cells.{cell-lt}
+use Rattle.rules.proofs.Deriving.{no-wait, given-map}
 use Rattle.rules.proofs.InRange.{range}
 use Rattle.rules.proofs.Next.{Cell}
+use Rattle.rules.proofs.FirstAlarm.{Quiet, quiet-no-line, width-le}
 use Rattle.rules_panel.specs.Dramas.{AnyDuration, Drama}
 use Rattle.rules_panel.specs.Strategies.{Viable}
-use Rattle.rules_follow.specs.Following.{Preference, run, final, Followed}
-use Rattle.rules_follow.proofs.Lateness.{Out, lateness}
+use Rattle.rules_follow.specs.Following.{Preference, stepsBy, run, final, Followed}
+use Rattle.rules_follow.proofs.Lateness.{Out, lateness, none-late}
 use Rattle.rules_follow.proofs.TableLines.{Held, Closed, HasLine, weaker}
 use Rattle.rules_follow.proofs.KnownDigits.{TrueDigit, known-true}
-use Rattle.rules_follow.proofs.Stepping.{Done}
+use Rattle.rules_follow.proofs.Stepping.{Executed}
 use Rattle.rules_follow.proofs.KeptEdges.{Timed, keeps}
 use Rattle.rules_follow.proofs.Invariant.{Invariant, since-done, holds}
-use Rattle.rules_follow.proofs.Runs.{none-late, all-come}
+use Rattle.rules_follow.proofs.Runs.{all-come}
 use Rattle.rules_follow.proofs.Reacting.{on-time, strategy, same-place}
-
--- the first alarm has no cell above 0
-abbrev pub FirstFree : Plan → List ℕ → Type 0
-FirstFree P T = (c : ℕ) → c < width P → getD T c 0 ≡ 0
 
 -- what follows the plan's cells does not matter
 module _ {P : Plan} (wf : WellFormed P) (A F : List ℕ) (whole : length A ≡ cells P) where
@@ -42,27 +36,20 @@ module _ {P : Plan} (wf : WellFormed P) (A F : List ℕ) (whole : length A ≡ c
   cell-of : (l : Line) → Cell P (A ++ F) l → Cell P A l
   cell-of l c = record { inside = c .inside; above = c .above; holds = sym (same-cell (cellOf P l) (cell-lt P l (c .inside))) ∙ c .holds }
 
-  given-of : (k : Line) → Given P (Cell P (A ++ F)) k → Given P (Cell P A) k
-  given-of k g = record { rule = g .rule; row = g .row; first = g .first; second = g .second; first-is = parent (g .first-is); second-is = parent (g .second-is); fire = g .fire; gave = g .gave }
-    where
-      parent : {l : Line} → Held P (A ++ F) l → Held P A l
-      parent (inl s) = inl s
-      parent {l} (inr c) = inr (cell-of l c)
-
   pub closed-on : Closed P A → Closed P (A ++ F)
-  closed-on closed k g = let h = given-of k g in rw (same-cell (cellOf P k) (cell-lt P k (range P wf (λ l c. c .inside) h))) (closed k h)
+  closed-on closed k g = let h = given-map cell-of g in rw (same-cell (cellOf P k) (cell-lt P k (range P wf (λ l c. c .inside) h))) (closed k h)
 
-  pub free-on : FirstFree P A → FirstFree P (A ++ F)
-  free-on free c h = same-cell c (omega (arith, h, mul-le-mul-right (width P) (le-trans (le-suc 1) (wf .two)))) ∙ free c h
+  pub quiet-on : Quiet P A → Quiet P (A ++ F)
+  quiet-on quiet c h = same-cell c (omega (arith, h, width-le P wf)) ∙ quiet c h
 
-module _ {P : Plan} (wf : WellFormed P) {T : List ℕ} (closed : Closed P T) (free : FirstFree P T) (prefer : Preference) where
+module _ {P : Plan} (wf : WellFormed P) {T : List ℕ} (closed : Closed P T) (quiet : Quiet P T) (prefer : Preference) where
   abbrev N : ℕ
-  N = P .points + greatest (λ c. getD T c 0) (cells P)
+  N = stepsBy P T
 
   abbrev timeIn : Drama P AnyDuration → ℕ → ℕ
   timeIn r x = final P T prefer r .time x
 
-  come : (r : Drama P AnyDuration) (x : ℕ) → x < P .points → Done (run P T prefer r N) x
+  come : (r : Drama P AnyDuration) (x : ℕ) → x < P .points → Executed (run P T prefer r N) x
   come r = all-come wf closed prefer r
 
   invariant : (r : Drama P AnyDuration) → Invariant T r (run P T prefer r N)
@@ -79,14 +66,12 @@ module _ {P : Plan} (wf : WellFormed P) {T : List ℕ} (closed : Closed P T) (fr
   -- the first alarm has no line but its starting line
   first-line : (l : Line) → l .point ≡ 0 → Held P T l → l .wait ≡ 0
   first-line l e (inl q) = no-wait q
-  first-line l e (inr q) =
-      let c : cellOf P l < width P = rw e (digit-lt (0 * 2 ^ P .links + l .set) (2 ^ P .links) (4 ^ P .propositions) (l .label) (omega (arith, q .inside .set-in)) (q .inside .label-in)) in
-      omega (arith, q .holds, free (cellOf P l) c)
+  first-line l e (inr q) = absurd (quiet-no-line P T quiet l q e)
 
   first-at-start : (r : Drama P AnyDuration) → timeIn r 0 ≡ 0
   first-at-start r =
       let a = sure-at r 0 (pow-pos (P .links)) 0 (omega (arith, wf .two)) in
-      omega (arith, a .waits, none-late wf closed prefer r, first-line (a .line) (a .at) (a .held))
+      omega (arith, a .waits, none-late r, first-line (a .line) (a .at) (a .held))
 
   viable : Viable (strategy wf closed prefer) 1
   viable = record {

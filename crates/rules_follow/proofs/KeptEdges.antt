@@ -15,9 +15,9 @@ use Rattle.plan.proofs.Ranges.{WellFormed}
 use Rattle.rules_panel.specs.Dramas.{AnyDuration, Drama, True}
 use Rattle.rules_panel.specs.Strategies.{NoEnd}
 use Rattle.rules_follow.proofs.Lateness.{Out, sum-but, over, lateness}
-use Rattle.rules_follow.proofs.TableLines.{Closed, HasLine, start, weaker, pull, lower}
+use Rattle.rules_follow.proofs.TableLines.{Closed, HasLine, start, weaker, propagation, lower-case}
 use Rattle.rules_follow.proofs.LinkChains.{at-all}
-use Rattle.rules_follow.proofs.KnownDigits.{value, join-either, TrueDigit, true-plain, true-digit}
+use Rattle.rules_follow.proofs.KnownDigits.{TrueDigit, true-joins, true-plain, true-digit}
 
 module _ {P : Plan} (T : List ℕ) (r : Drama P AnyDuration) where
   -- a set such that every true line of x without a link of it waits at most t less the set's lateness
@@ -35,11 +35,11 @@ module _ {P : Plan} (wf : WellFormed P) {T : List ℕ} (closed : Closed P T) (r 
   -- rule 1
   over-edge : (Q : ℕ → Type 0) (e w : ℕ) → e < P .edges → True P (r .scenario) (P .label e) → P .up e < w + P .down e
       → HasLine P T (P .to e) w Q (TrueDigit r) → HasLine P T (P .from e) (w + P .down e - P .up e) Q (TrueDigit r)
-  over-edge Q e w h t more a = pull P wf T closed e h a (true-plain r) (true-plain r) (λ j d hj q. join-either (value (r .scenario j)) _ _ (true-digit r (P .label e) t (wf .label-plain e h) j hj) q) more
+  over-edge Q e w h t more a = propagation P wf T closed e h a (true-plain r) (true-plain r) (λ j d hj. true-joins r j _ d (true-digit r (P .label e) t (wf .label-plain e h) j hj)) more
 
   -- a set that a point went by is late by its time or less: the starting line
   late-le : (x t : ℕ) → x < P .points → (b : WentBy T r x t) → lateness r (b .by) ≤ t
-  late-le x t h b = omega (arith, b .bound 0 (start x h (λ j k. inl refl)))
+  late-le x t h b = omega (arith, b .bound 0 (start x h (λ j k. inl refl) (le-refl _)))
 
   -- an end went by its activation's set and its own link: rule 2
   end-by : (i : ℕ) → i < P .links → (t : ℕ) → WentBy T r (P .activation i) t → WentBy T r (P .finish i) (t + r .situation i)
@@ -61,7 +61,7 @@ module _ {P : Plan} (wf : WellFormed P) {T : List ℕ} (closed : Closed P T) (r 
           go : Dec (w ≤ P .least i) → w + lateness r D ≤ t + r .situation i
           go (yes q) = omega (arith, late, r .no-shorter i h, late-le (P .activation i) t (wf .activation-in i h) b)
           go (no q) =
-              let c = lower P wf T closed i h a (true-plain r) (λ o. o (in-added (b .by) i)) (omega arith) in
+              let c = lower-case P wf T closed i h a (true-plain r) (λ o. o (in-added (b .by) i)) (omega arith) in
               omega (arith, late, r .no-shorter i h, b .bound (w - P .least i) (weaker c (le-refl _) (λ k hk o q. o (in-insert (b .by) i k q)) (λ j d k z. z)))
 
   module _ (time : ℕ → ℕ) (timed : Timed T r time) where

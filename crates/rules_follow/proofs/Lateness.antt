@@ -9,9 +9,10 @@ use native.Mathlib.Omega.{arith}
 use lib.Dec.{T as Is}
 use Rattle.plan.specs.LinkSet.{contains}
 use Rattle.plan.specs.Plan.{Plan}
+use Rattle.plan.proofs.Truth.{is?, is-true}
+use Rattle.rules.proofs.InRange.{none-in}
 use Rattle.rules_panel.specs.Dramas.{AnyDuration, Drama}
 use Rattle.rules_follow.specs.Following.{sumOver}
-use Rattle.rules_follow.proofs.Searching.{is?, is-true}
 
 -- a link out of a set
 abbrev pub Out : ℕ → ℕ → Type 0
@@ -33,7 +34,7 @@ part-more true c m h = rw (is-true c (h tt)) (le-refl _)
 part-more false c m h = omega arith
 
 module _ (f : ℕ → ℕ) where
-  pub sum-none : (n : ℕ) (D : ℕ) → ((i : ℕ) → i < n → Out D i) → sumOver f D n ≡ 0
+  sum-none : (n : ℕ) (D : ℕ) → ((i : ℕ) → i < n → Out D i) → sumOver f D n ≡ 0
   unfolding sumOver
   sum-none zero D h = refl
   sum-none (suc n) D h = omega (arith, sum-none n D (λ i k. h i (omega arith)), part-out (contains D n) (f n) (h n (omega arith)))
@@ -47,7 +48,7 @@ module _ (f : ℕ → ℕ) where
       go (inl t) e = rw (e, h n (omega arith) t)
       go (inr o) e = rw (e, o)
 
-  pub sum-le : (D E n : ℕ) → ((i : ℕ) → i < n → Is (contains D i) → Is (contains E i)) → sumOver f D n ≤ sumOver f E n
+  sum-le : (D E n : ℕ) → ((i : ℕ) → i < n → Is (contains D i) → Is (contains E i)) → sumOver f D n ≤ sumOver f E n
   unfolding sumOver
   sum-le D E zero h = le-refl _
   sum-le D E (suc n) h = omega (arith, sum-le D E n (λ i k. h i (omega arith)), part-more (contains D n) (contains E n) (f n) (h n (omega arith)))
@@ -79,3 +80,7 @@ module _ {P : Plan} (r : Drama P AnyDuration) where
 
   abbrev pub lateness : ℕ → ℕ
   lateness D = sumOver over D (P .links)
+
+  -- nothing is late without links
+  pub none-late : lateness 0 ≡ 0
+  none-late = sum-none over (P .links) 0 (λ i h. none-in i)

@@ -14,32 +14,36 @@ use Rattle.plan.specs.LinkSet.{contains, remove}
 use Rattle.plan.specs.Plan.{Plan}
 use Rattle.plan.proofs.Digits.{in-remove, of-remove, remove-in}
 use Rattle.plan.proofs.Ranges.{WellFormed}
+use Rattle.plan.proofs.Truth.{is?, is-not}
 use Rattle.rules_panel.specs.Dramas.{AnyDuration, Drama}
 use Rattle.rules_panel.specs.Strategies.{NoEnd}
 use Rattle.rules_follow.specs.Following.{State}
-use Rattle.rules_follow.proofs.Searching.{is?, not-both}
 use Rattle.rules_follow.proofs.Lateness.{Out, sum-more, over, lateness}
-use Rattle.rules_follow.proofs.TableLines.{Closed, HasLine, start, weaker, clear-own, remove-literal, remove-link, lift, remove-own}
+use Rattle.rules_follow.proofs.TableLines.{Closed, HasLine, start, weaker, clear-own, remove-literal, remove-link, upper-case, remove-own}
 use Rattle.rules_follow.proofs.LinkChains.{at-all}
-use Rattle.rules_follow.proofs.Stepping.{Done, done?}
+use Rattle.rules_follow.proofs.Stepping.{Executed, done?, observer-no-end, Running}
 use Rattle.rules_follow.proofs.KnownDigits.{Known, known-plain, known-joins, Agrees}
 
 -- each link of a set has ended
 abbrev pub AllEnded : Plan → State → ℕ → Type 0
-AllEnded P s D = (i : ℕ) → i < P .links → Is (contains D i) → Done s (P .finish i)
+AllEnded P s D = (i : ℕ) → i < P .links → Is (contains D i) → Executed s (P .finish i)
 
 module _ {P : Plan} (T : List ℕ) (r : Drama P AnyDuration) (s : State) where
   -- a line of x without a link of D, all of it known, that waits until t less the lateness of D
   abbrev pub Sure : ℕ → ℕ → ℕ → Type 0
   Sure D x t = HasLine P T x (t - lateness r D) (Out D) (Known r s)
 
-  -- t is the next second: what is so when nothing more comes before it
-  pub record Still (t : ℕ) : Type 0 where
-    pub held : (D : ℕ) → D < 2 ^ P .links → AllEnded P s D → (x : ℕ) → x < P .points → NoEnd P x → (Done s x → ⊥) → HasLine P T x (t - lateness r D) (Out D) (Agrees r s)
-    pub sure : (D : ℕ) → D < 2 ^ P .links → (x : ℕ) → x < P .points → Done s x → Sure D x (s .time x)
-    pub on-way : (i : ℕ) → i < P .links → Done s (P .activation i) → (Done s (P .finish i) → ⊥) → t ≤ s .time (P .activation i) + r .situation i
+  -- one that agrees
+  abbrev pub HeldUntil : ℕ → ℕ → ℕ → Type 0
+  HeldUntil D x t = HasLine P T x (t - lateness r D) (Out D) (Agrees r s)
 
-module _ {P : Plan} (wf : WellFormed P) {T : List ℕ} (closed : Closed P T) (r : Drama P AnyDuration) (s : State) (t : ℕ) (still : Still T r s t) where
+  -- what is so when nothing more comes before the second t
+  pub record Idle (t : ℕ) : Type 0 where
+    pub held : (D : ℕ) → D < 2 ^ P .links → AllEnded P s D → (x : ℕ) → x < P .points → NoEnd P x → (Executed s x → ⊥) → HeldUntil D x t
+    pub sure : (D : ℕ) → D < 2 ^ P .links → (x : ℕ) → x < P .points → Executed s x → Sure D x (s .time x)
+    pub on-way : (i : ℕ) → i < P .links → Running P s i → t ≤ s .time (P .activation i) + r .situation i
+
+module _ {P : Plan} (wf : WellFormed P) {T : List ℕ} (closed : Closed P T) (r : Drama P AnyDuration) (s : State) (t : ℕ) (idle : Idle T r s t) where
   -- ---- propositions, one by one, where the links left out have all ended
   module _ (D : ℕ) (hD : D < 2 ^ P .links) (ended : AllEnded P s D) where
     abbrev w : ℕ
@@ -47,7 +51,7 @@ module _ {P : Plan} (wf : WellFormed P) {T : List ℕ} (closed : Closed P T) (r 
 
     -- known, or of a proposition from m on that is not learnt yet
     abbrev After : ℕ → ℕ → ℕ → Type 0
-    After m j d = Known r s j d ⊎ ((Done s (P .observer j) → ⊥) × (m ≤ j))
+    After m j d = Known r s j d ⊎ ((Executed s (P .observer j) → ⊥) × (m ≤ j))
 
     after-joins : (m j d e : ℕ) → After m j d → After m j e → After m j (joinDigit d e)
     after-joins m j d e (inl a) (inl b) = inl (known-joins r s j d e a b)
@@ -58,32 +62,32 @@ module _ {P : Plan} (wf : WellFormed P) {T : List ℕ} (closed : Closed P T) (r 
     after-other m k d n (inl a) = inl a
     after-other m k d n (inr a) = inr (a .0, omega (arith, a .1))
 
-    after-learnt : (m : ℕ) → Done s (P .observer m) → (k d : ℕ) → After m k d → After (suc m) k d
+    after-learnt : (m : ℕ) → Executed s (P .observer m) → (k d : ℕ) → After m k d → After (suc m) k d
     after-learnt m l k d (inl a) = inl a
     after-learnt m l k d (inr a) = let f : k ≡ m → ⊥ = λ e. a .0 (rw e l) in inr (a .0, omega (arith, a .1))
 
     module _ (later : 0 < w) where
-      literals : (m : ℕ) → m ≤ P .propositions → (x : ℕ) → x < P .points → NoEnd P x → (Done s x → ⊥) → HasLine P T x w (Out D) (After m)
-      literals zero h x hx e n = weaker (still .held D hD ended x hx e n) (le-refl _) (λ i k q. q) first
+      literals : (m : ℕ) → m ≤ P .propositions → (x : ℕ) → x < P .points → NoEnd P x → (Executed s x → ⊥) → HasLine P T x w (Out D) (After m)
+      literals zero h x hx e n = weaker (idle .held D hD ended x hx e n) (le-refl _) (λ i k q. q) first
         where
           first : (j d : ℕ) → j < P .propositions → Agrees r s j d → After 0 j d
           first j d k (inl a) = inl a
           first j d k (inr a) = inr (a, omega arith)
       literals (suc m) h x hx e n = go (done? s (P .observer m)) (literals m (omega arith))
         where
-          go : Dec (Done s (P .observer m)) → ((x : ℕ) → x < P .points → NoEnd P x → (Done s x → ⊥) → HasLine P T x w (Out D) (After m)) → HasLine P T x w (Out D) (After (suc m))
+          go : Dec (Executed s (P .observer m)) → ((x : ℕ) → x < P .points → NoEnd P x → (Executed s x → ⊥) → HasLine P T x w (Out D) (After m)) → HasLine P T x w (Out D) (After (suc m))
           go (yes l) all = weaker (all x hx e n) (le-refl _) (λ i k q. q) (λ j d k q. after-learnt m l j d q)
           go (no u) all = remove-literal P wf T closed m (omega arith) later (all x hx e n) own none (inl (inl refl)) (after-other m) (after-joins (suc m))
             where
               own : HasLine P T (P .observer m) w (Out D) (After (suc m))
-              own = clear-own P wf T closed m (omega arith) later (all (P .observer m) (wf .observer-in m (omega arith) .1) (record { no-end = λ i hi q. wf .finish-observes-none i m hi (omega arith) q }) u) (inl (inl refl)) (after-other m)
+              own = clear-own P wf T closed m (omega arith) later (all (P .observer m) (wf .observer-in m (omega arith) .1) (observer-no-end wf m (omega arith)) u) (inl (inl refl)) (after-other m)
 
               none : (d : ℕ) → After (suc m) m d → d ≡ 0
               none d (inl (inl e)) = e
               none d (inl (inr e)) = absurd (u (e .0))
               none d (inr e) = absurd (omega (arith, e .1))
 
-    no-literals : (x : ℕ) → x < P .points → NoEnd P x → (Done s x → ⊥) → Sure T r s D x t
+    no-literals : (x : ℕ) → x < P .points → NoEnd P x → (Executed s x → ⊥) → Sure T r s D x t
     no-literals x hx e n = go (decLt 0 w)
       where
         last : (j d : ℕ) → j < P .propositions → After (P .propositions) j d → Known r s j d
@@ -92,48 +96,48 @@ module _ {P : Plan} (wf : WellFormed P) {T : List ℕ} (closed : Closed P T) (r 
 
         go : Dec (0 < w) → Sure T r s D x t
         go (yes later) = weaker (literals later (P .propositions) (le-refl _) x hx e n) (le-refl _) (λ i k q. q) last
-        go (no q) = weaker (start {T = T} x {Q = Out D} {D = Known r s} hx (λ j k. inl refl)) (omega arith) (λ i k q. q) (λ j d k q. q)
+        go (no q) = start x hx (λ j k. inl refl) (omega arith)
 
     -- ---- ends: rule 3
-    out : (i : ℕ) → i < P .links → (Done s (P .finish i) → ⊥) → Out D i
+    out : (i : ℕ) → i < P .links → (Executed s (P .finish i) → ⊥) → Out D i
     out i h n c = n (ended i h c)
 
-    ends : (x : ℕ) → x < P .points → (Done s x → ⊥) → Sure T r s D x t
-    ends = at-all P wf T closed (λ x. (Done s x → ⊥) → Sure T r s D x t) no-literals end
+    ends : (x : ℕ) → x < P .points → (Executed s x → ⊥) → Sure T r s D x t
+    ends = at-all P wf T closed (λ x. (Executed s x → ⊥) → Sure T r s D x t) no-literals end
       where
-        end : (i : ℕ) → i < P .links → ((Done s (P .activation i) → ⊥) → Sure T r s D (P .activation i) t) → (Done s (P .finish i) → ⊥) → Sure T r s D (P .finish i) t
+        end : (i : ℕ) → i < P .links → ((Executed s (P .activation i) → ⊥) → Sure T r s D (P .activation i) t) → (Executed s (P .finish i) → ⊥) → Sure T r s D (P .finish i) t
         end i h before n = go (done? s (P .activation i))
           where
             up : {v : ℕ} → HasLine P T (P .activation i) v (Out D) (Known r s) → t - lateness r D ≤ v + P .most i → Sure T r s D (P .finish i) t
-            up a le = weaker (lift P wf T closed i h a (known-plain r s) (out i h n) (λ k q. q)) le (λ k hk q. q) (λ j d k q. q)
+            up a le = weaker (upper-case P wf T closed i h a (known-plain r s) (out i h n) (λ k q. q)) le (λ k hk q. q) (λ j d k q. q)
 
-            go : Dec (Done s (P .activation i)) → Sure T r s D (P .finish i) t
+            go : Dec (Executed s (P .activation i)) → Sure T r s D (P .finish i) t
             go (no a) = up (before a) (omega arith)
-            go (yes a) = up (still .sure D hD (P .activation i) (wf .activation-in i h) a) (omega (arith, still .on-way i h a n, r .no-longer i h))
+            go (yes a) = up (idle .sure D hD (P .activation i) (wf .activation-in i h) a) (omega (arith, idle .on-way i h (record { begun = a; not-ended = n }), r .no-longer i h))
 
   -- ---- links left out that have not ended, one by one: rule 4
   -- each link of D has ended or is below m
   abbrev EndedFrom : ℕ → ℕ → Type 0
-  EndedFrom m D = (i : ℕ) → i < P .links → Is (contains D i) → Done s (P .finish i) ⊎ (i < m)
+  EndedFrom m D = (i : ℕ) → i < P .links → Is (contains D i) → Executed s (P .finish i) ⊎ (i < m)
 
-  ended-below : (m D : ℕ) → (Is (contains D m) → Done s (P .finish m)) → EndedFrom (suc m) D → EndedFrom m D
+  ended-below : (m D : ℕ) → (Is (contains D m) → Executed s (P .finish m)) → EndedFrom (suc m) D → EndedFrom m D
   ended-below m D own e i h c = go (e i h c) (ℕ-discrete i m)
     where
-      go : Done s (P .finish i) ⊎ (i < suc m) → Dec (i ≡ m) → Done s (P .finish i) ⊎ (i < m)
+      go : Executed s (P .finish i) ⊎ (i < suc m) → Dec (i ≡ m) → Executed s (P .finish i) ⊎ (i < m)
       go (inl d) q = inl d
       go (inr l) (yes q) = inl (rw q (own (rw q at c)))
       go (inr l) (no q) = inr (omega arith)
 
-  letters : (m : ℕ) → m ≤ P .links → (D : ℕ) → D < 2 ^ P .links → EndedFrom m D → (x : ℕ) → x < P .points → (Done s x → ⊥) → Sure T r s D x t
+  letters : (m : ℕ) → m ≤ P .links → (D : ℕ) → D < 2 ^ P .links → EndedFrom m D → (x : ℕ) → x < P .points → (Executed s x → ⊥) → Sure T r s D x t
   letters zero h D hD e x hx n = ends D hD (λ i hi c. ended i hi (e i hi c)) x hx n
     where
-      ended : (i : ℕ) → i < P .links → Done s (P .finish i) ⊎ (i < 0) → Done s (P .finish i)
+      ended : (i : ℕ) → i < P .links → Executed s (P .finish i) ⊎ (i < 0) → Executed s (P .finish i)
       ended i hi (inl d) = d
       ended i hi (inr l) = absurd (omega arith)
   letters (suc m) h D hD e x hx n = go (is? (contains D m)) (done? s (P .finish m)) (letters m (omega arith))
     where
-      go : Is (contains D m) ⊎ (contains D m ≡ false) → Dec (Done s (P .finish m)) → ((D : ℕ) → D < 2 ^ P .links → EndedFrom m D → (x : ℕ) → x < P .points → (Done s x → ⊥) → Sure T r s D x t) → Sure T r s D x t
-      go (inr c) d all = all D hD (ended-below m D (λ q. absurd (not-both _ q c)) e) x hx n
+      go : Is (contains D m) ⊎ (contains D m ≡ false) → Dec (Executed s (P .finish m)) → ((D : ℕ) → D < 2 ^ P .links → EndedFrom m D → (x : ℕ) → x < P .points → (Executed s x → ⊥) → Sure T r s D x t) → Sure T r s D x t
+      go (inr c) d all = all D hD (ended-below m D (λ q. absurd (is-not c q)) e) x hx n
       go (inl c) (yes d) all = all D hD (ended-below m D (λ q. d) e) x hx n
       go (inl c) (no d) all = own (done? s (P .activation m))
         where
@@ -155,10 +159,10 @@ module _ {P : Plan} (wf : WellFormed P) {T : List ℕ} (closed : Closed P T) (r 
           by : {v : ℕ} → HasLine P T (P .activation m) v (Out D′) (Known r s) → t - lateness r D ≤ v + P .least m → Sure T r s D x t
           by a le = remove-link P wf T closed m (omega arith) (weaker (all D′ hD′ ended′ x hx n) (omega (arith, less)) (λ i k q. q) (λ j f k q. q)) (remove-own P wf T closed m (omega arith) a (λ j k. inl refl) other) le (λ o. o c) (λ k hk. other k) (λ j f q. q) (known-joins r s)
 
-          own : Dec (Done s (P .activation m)) → Sure T r s D x t
-          own (yes a) = by (still .sure D′ hD′ (P .activation m) (wf .activation-in m (omega arith)) a) (omega (arith, less, still .on-way m (omega arith) a d, r .no-shorter m (omega arith)))
+          own : Dec (Executed s (P .activation m)) → Sure T r s D x t
+          own (yes a) = by (idle .sure D′ hD′ (P .activation m) (wf .activation-in m (omega arith)) a) (omega (arith, less, idle .on-way m (omega arith) (record { begun = a; not-ended = d }), r .no-shorter m (omega arith)))
           own (no a) = by (all D′ hD′ ended′ (P .activation m) (wf .activation-in m (omega arith)) a) (omega (arith, less))
 
   -- the law
-  pub spread : (D : ℕ) → D < 2 ^ P .links → (x : ℕ) → x < P .points → (Done s x → ⊥) → Sure T r s D x t
+  pub spread : (D : ℕ) → D < 2 ^ P .links → (x : ℕ) → x < P .points → (Executed s x → ⊥) → Sure T r s D x t
   spread D hD = letters (P .links) (le-refl _) D hD (λ i h c. inr h)

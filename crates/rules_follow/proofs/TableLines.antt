@@ -5,17 +5,16 @@ use mathlib.Core.Bool.{Bool, true, false, not}
 use mathlib.Core.Logic.{_⊎_, inl, inr}
 use mathlib.Core.List.{List}
 use Prim.Native.Nat.{ℕ, zero, suc, _+_, _-_, _≤_, _<_, min}
-use native.Mathlib.Nat.{le-refl, le-trans}
+use native.Mathlib.Nat.{le-trans}
 use native.Mathlib.Decide.{ℕ-discrete}
 use native.Mathlib.Omega.{arith}
 use lib.Dec.{T as Is, eqb, not-T, eqb→eq}
 use lib.Ieee.Fits.{eq→eqb}
-use borrow.Author.Tests.{eq-eqb, ne-eqb}
 use lib.ListN.{getD}
 use Rattle.plan.specs.Label.{digit, joinDigit, join, plain, clearDigit}
 use Rattle.plan.specs.LinkSet.{contains, union, insert, remove}
 use Rattle.plan.specs.Plan.{Plan}
-use Rattle.plan.proofs.Digits.{digit-join, clear-other, clear-same, plain-of, of-union, of-insert, of-remove}
+use Rattle.plan.proofs.Digits.{digit-join, join-one, clear-other, clear-same, plain-of, of-union, of-insert, of-remove}
 use Rattle.plan.proofs.LabelLaws.{digit-none}
 use Rattle.plan.proofs.Ranges.{WellFormed}
 use Rattle.rules.specs.declared.Line.{Line}
@@ -29,27 +28,6 @@ use Rattle.rules.proofs.Deriving.{Fires, facts-fire}
 use Rattle.rules.proofs.InRange.{InRange, range, given-above, none-in}
 use Rattle.rules.proofs.Monotone.{waiting}
 use Rattle.rules.proofs.Next.{Cell}
-
--- ---- joined digits
-pub join-zero : (d : ℕ) → joinDigit d 0 ≡ d
-unfolding joinDigit
-join-zero d = go (ℕ-discrete d 0)
-  where
-    go : Dec (d ≡ 0) → joinDigit d 0 ≡ d
-    go (yes e) = rw e
-    go (no e) = rw (ne-eqb d 0 e)
-
-pub zero-join : (d : ℕ) → joinDigit 0 d ≡ d
-unfolding joinDigit
-zero-join d = refl
-
-pub join-same : (d : ℕ) → joinDigit d d ≡ d
-unfolding joinDigit
-join-same d = go (ℕ-discrete d 0)
-  where
-    go : Dec (d ≡ 0) → joinDigit d d ≡ d
-    go (yes e) = rw e
-    go (no e) = rw (ne-eqb d 0 e, eq-eqb d d refl)
 
 -- ---- lines
 -- a line of T: a starting line, or a cell above 0
@@ -70,12 +48,12 @@ pub record HasLine (P : Plan) (T : List ℕ) (x w : ℕ) (Q : ℕ → Type 0) (D
   pub digits : (j : ℕ) → j < P .propositions → D j (digit (line .label) j)
 
 -- a starting line
-pub start : {P : Plan} {T : List ℕ} (x : ℕ) {Q : ℕ → Type 0} {D : ℕ → ℕ → Type 0} → x < P .points → ((j : ℕ) → j < P .propositions → D j 0) → HasLine P T x 0 Q D
-start x {D} h d = record {
+pub start : {P : Plan} {T : List ℕ} (x : ℕ) {w : ℕ} {Q : ℕ → Type 0} {D : ℕ → ℕ → Type 0} → x < P .points → ((j : ℕ) → j < P .propositions → D j 0) → w ≤ 0 → HasLine P T x w Q D
+start x {D} h d z = record {
   line = startingLine x;
   held = inl (record { inside = h; is-starting = refl });
   at = refl;
-  waits = le-refl _;
+  waits = z;
   links = λ i k t. absurd (none-in i t);
   digits = λ j k. subst (D j) (sym (digit-none j)) (d j k);
 }
@@ -91,6 +69,9 @@ weaker a h f g = record {
   links = λ i k t. f i k (a .links i k t);
   digits = λ j k. g j _ k (a .digits j k);
 }
+
+pub shorter : {P : Plan} {T : List ℕ} {x v w : ℕ} {Q : ℕ → Type 0} {D : ℕ → ℕ → Type 0} → HasLine P T x w Q D → v ≤ w → HasLine P T x v Q D
+shorter a h = weaker a h (λ i k q. q) (λ j d k q. q)
 
 module _ (P : Plan) (wf : WellFormed P) (T : List ℕ) (closed : Closed P T) where
   -- what a rule gives, T has, with that wait or a longer one
@@ -197,8 +178,8 @@ module _ (P : Plan) (wf : WellFormed P) (T : List ℕ) (closed : Closed P T) whe
   plain-line a known = plain-of (P .propositions) (a .line .label) (λ j hj. known j _ (a .digits j hj))
 
   -- rule 3: an end waits y after its activation
-  pub lift : {w : ℕ} {Q R : ℕ → Type 0} {D : ℕ → ℕ → Type 0} (i : ℕ) → i < P .links → HasLine P T (P .activation i) w Q D → ((j d : ℕ) → D j d → d ≡ 3 → ⊥) → R i → ((k : ℕ) → Q k → R k) → HasLine P T (P .finish i) (w + P .most i) R D
-  lift {Q} {R} i h a known own other =
+  pub upper-case : {w : ℕ} {Q R : ℕ → Type 0} {D : ℕ → ℕ → Type 0} (i : ℕ) → i < P .links → HasLine P T (P .activation i) w Q D → ((j d : ℕ) → D j d → d ≡ 3 → ⊥) → R i → ((k : ℕ) → Q k → R k) → HasLine P T (P .finish i) (w + P .most i) R D
+  upper-case {Q} {R} i h a known own other =
       let f : Fires P (UpperCase i) (a .line) (a .line) = (a .at, plain-line a known) in
       by-rule (UpperCase i) h (a .line) (a .line) (a .held) (a .held) f refl (omega (arith, a .waits)) links′ (a .digits)
     where
@@ -228,17 +209,16 @@ module _ (P : Plan) (wf : WellFormed P) (T : List ℕ) (closed : Closed P T) whe
       digits′ j d hj (inr e) = rw e (a .digits j hj)
 
       joins : (j d e : ℕ) → d ≡ digit (l .label) j → Same j e → Same j (joinDigit d e)
-      joins j d e p (inl q) = inr (ap (joinDigit d) q ∙ join-zero d ∙ p)
-      joins j d e p (inr q) = inr (ap (joinDigit d) (q ∙ sym p) ∙ join-same d ∙ p)
+      joins j d e p q = join-one (Same j) (digit (l .label) j) d e (inr p) q (inr p) q
 
       again : (n : ℕ) → HasLine P T (P .activation i) (min w n) (λ k. (k ≡ i → ⊥) × Q k) Same
-      again zero = weaker (start {T = T} (P .activation i) {Q = λ k. (k ≡ i → ⊥) × Q k} {D = Same} (wf .activation-in i h) (λ j hj. inl refl)) (omega arith) (λ k hk q. q) (λ j d hj q. q)
-      again (suc n) = remove-link i h (weaker exact (omega arith) (λ k hk q. q) (λ j d hj q. q)) (again n) (omega (arith, wf .durations i h)) (λ q. q .0 refl) (λ k hk n q. (n, q)) (λ j d q. inr q) joins
+      again zero = start (P .activation i) (wf .activation-in i h) (λ j hj. inl refl) (omega arith)
+      again (suc n) = remove-link i h (shorter exact (omega arith)) (again n) (omega (arith, wf .durations i h)) (λ q. q .0 refl) (λ k hk n q. (n, q)) (λ j d q. inr q) joins
 
   -- rule 1: the start of an edge waits u less than its end
-  pub pull : {w : ℕ} {Q : ℕ → Type 0} {D E : ℕ → ℕ → Type 0} (e : ℕ) → e < P .edges → HasLine P T (P .to e) w Q D → ((j d : ℕ) → D j d → d ≡ 3 → ⊥) → ((j d : ℕ) → E j d → d ≡ 3 → ⊥)
+  pub propagation : {w : ℕ} {Q : ℕ → Type 0} {D E : ℕ → ℕ → Type 0} (e : ℕ) → e < P .edges → HasLine P T (P .to e) w Q D → ((j d : ℕ) → D j d → d ≡ 3 → ⊥) → ((j d : ℕ) → E j d → d ≡ 3 → ⊥)
       → ((j d : ℕ) → j < P .propositions → D j d → E j (joinDigit (digit (P .label e) j) d)) → P .up e < w + P .down e → HasLine P T (P .from e) (w + P .down e - P .up e) Q E
-  pull {E} e h a known known′ joins more =
+  propagation {E} e h a known known′ joins more =
       let f : Fires P (Propagation (PlanEdge e)) (a .line) (a .line) = (a .at, plain-line a known, plain-of (P .propositions) (join (P .propositions) (P .label e) (a .line .label)) (λ j hj. known′ j _ (digits′ j hj)), omega (arith, a .waits)) in
       by-rule (Propagation (PlanEdge e)) h (a .line) (a .line) (a .held) (a .held) f refl (omega (arith, a .waits)) (a .links) digits′
     where
@@ -246,7 +226,7 @@ module _ (P : Plan) (wf : WellFormed P) (T : List ℕ) (closed : Closed P T) whe
       digits′ j hj = rw (digit-join (P .propositions) (P .label e) (a .line .label) j hj) (joins j _ hj (a .digits j hj))
 
   -- rule 2: an activation waits s less than its end, by a line that has not the link
-  pub lower : {w : ℕ} {Q : ℕ → Type 0} {D : ℕ → ℕ → Type 0} (i : ℕ) → i < P .links → HasLine P T (P .finish i) w Q D → ((j d : ℕ) → D j d → d ≡ 3 → ⊥) → (Q i → ⊥) → P .least i < w → HasLine P T (P .activation i) (w - P .least i) Q D
-  lower i h a known none more =
+  pub lower-case : {w : ℕ} {Q : ℕ → Type 0} {D : ℕ → ℕ → Type 0} (i : ℕ) → i < P .links → HasLine P T (P .finish i) w Q D → ((j d : ℕ) → D j d → d ≡ 3 → ⊥) → (Q i → ⊥) → P .least i < w → HasLine P T (P .activation i) (w - P .least i) Q D
+  lower-case i h a known none more =
       let f : Fires P (LowerCase i) (a .line) (a .line) = (a .at, not-T (contains (a .line .set) i) (λ t. none (a .links i h t)), plain-line a known, omega (arith, a .waits)) in
       by-rule (LowerCase i) h (a .line) (a .line) (a .held) (a .held) f refl (omega (arith, a .waits)) (a .links) (a .digits)

@@ -20,6 +20,10 @@ unfoldable pub first : (ℕ → Bool) → ℕ → ℕ
 first f zero = 0
 first f (suc n) = cond (ltb (first f n) n) (first f n) (cond (f n) n (suc n))
 
+-- some number below n does
+abbrev pub some : (ℕ → Bool) → ℕ → Bool
+some f n = ltb (first f n) n
+
 -- the numbers f i of the links i of a set, below n, added up
 unfoldable pub sumOver : (ℕ → ℕ) → ℕ → ℕ → ℕ
 sumOver f D zero = 0
@@ -51,6 +55,10 @@ execute s x = record {
 abbrev pub pass : State → State
 pass s = record { now = suc (s .now); steps = suc (s .steps); step = s .step; time = s .time }
 
+-- 20.3: an answer as a digit (2.1)
+abbrev pub answerDigit : Bool → ℕ
+answerDigit b = cond b 1 2
+
 -- 20.4: digit d of proposition j agrees with the answers learnt: it is absent, not learnt yet, or the answer
 abbrev pub agreesAt : (ℕ → ℕ) → ℕ → ℕ → Bool
 agreesAt answers j d = eqb d 0 || eqb (answers j) 0 || eqb d (answers j)
@@ -60,9 +68,9 @@ abbrev pub Preference : Type 0
 Preference = State → (ℕ → ℕ) → ℕ
 
 module _ (P : Plan) where
-  -- 20.3: the answers learnt in a scenario, 1 for yes and 2 for no; 0 where the observing point has not come
+  -- 20.3: the answers learnt in a scenario, as digits; 0 where the observing point has not come
   abbrev pub learnt : (ℕ → Bool) → State → ℕ → ℕ
-  learnt scenario s j = cond (ltb j (P .propositions) && executed s (P .observer j)) (cond (scenario j) 1 2) 0
+  learnt scenario s j = cond (ltb j (P .propositions) && executed s (P .observer j)) (answerDigit (scenario j)) 0
 
   -- 20.4: a label agrees: it is plain, and each of its digits does
   unfoldable pub agrees : (ℕ → ℕ) → ℕ → Bool
@@ -87,25 +95,33 @@ module _ (P : Plan) where
   abbrev pub due : (ℕ → ℕ) → State → ℕ → Bool
   due situation s i = executed s (P .activation i) && not (executed s (P .finish i)) && leb (s .time (P .activation i) + situation i) (s .now)
 
+  -- 20.9: the longest wait of a table, and the steps that are enough for it
+  abbrev pub longestWait : List ℕ → ℕ
+  longestWait T = greatest (λ c. getD T c 0) (cells P)
+
+  abbrev pub stepsBy : List ℕ → ℕ
+  stepsBy T = P .points + longestWait T
+
   module _ (T : List ℕ) where
-    -- 20.6: the line of point x with this set and label does not hold it back, if the links of D are left out: it does not agree, has a link
-    -- of D, or has run out, late(D) ago
-    unfoldable pub runOut : State → (ℕ → ℕ) → ℕ → ℕ → ℕ → ℕ → Bool
-    runOut s answers x D set label =
-        not (agrees answers label) || not (disjoint D set)
-        || leb (getD T (cellOf P (record { point = x; set = set; label = label; wait = 0 })) 0 + late s D) (s .now)
+    -- 20.6: what the table holds for point x, a set and a label
+    abbrev pub waitOf : ℕ → ℕ → ℕ → ℕ
+    waitOf x set label = getD T (cellOf P (record { point = x; set = set; label = label; wait = 0 })) 0
+
+    -- 20.6: the line of point x with this set and label holds it back, if the links of D are left out: it agrees, has no link of D, and has not
+    -- run out, late(D) ago
+    unfoldable pub holdsBack : State → (ℕ → ℕ) → ℕ → ℕ → ℕ → ℕ → Bool
+    holdsBack s answers x D set label = agrees answers label && disjoint D set && ltb (s .now) (waitOf x set label + late s D)
 
     -- 20.6: the links of D have ended, and if they are left out no line of point x holds it back, the starting line neither
     unfoldable pub goesBy : State → (ℕ → ℕ) → ℕ → ℕ → Bool
     goesBy s answers x D =
         ended s D && leb (late s D) (s .now)
-        && every (λ set. every (λ label. runOut s answers x D set label) (4 ^ P .propositions)) (2 ^ P .links)
+        && every (λ set. every (λ label. not (holdsBack s answers x D set label)) (4 ^ P .propositions)) (2 ^ P .links)
 
     -- 20.7: a point may come: it has not, it is no end of a link, and goes by some set of links
     unfoldable pub ready : State → (ℕ → ℕ) → ℕ → Bool
     ready s answers x =
-        ltb x (P .points) && not (executed s x) && differs (P .finish) x (P .links)
-        && ltb (first (goesBy s answers x) (2 ^ P .links)) (2 ^ P .links)
+        ltb x (P .points) && not (executed s x) && differs (P .finish) x (P .links) && some (goesBy s answers x) (2 ^ P .links)
 
     module _ (prefer : Preference) where
       -- 20.7: the point to come: the one preferred if it may come, else the first that may
@@ -119,27 +135,31 @@ module _ (P : Plan) where
           (cond (ltb (chosen s answers) (P .points)) (execute s (chosen s answers)) (pass s))
 
       -- 20.8: the same in a drama, which says what is learnt and what is due
-      abbrev pub next : Drama P AnyDuration → State → State
-      next r s = act s (learnt (r .scenario) s) (first (due (r .situation) s) (P .links))
+      abbrev pub nextState : Drama P AnyDuration → State → State
+      nextState r s = act s (learnt (r .scenario) s) (first (due (r .situation) s) (P .links))
 
       -- 20.8: the state after m steps
       unfoldable pub run : Drama P AnyDuration → ℕ → State
       run r zero = initial
-      run r (suc m) = next r (run r m)
+      run r (suc m) = nextState r (run r m)
 
       -- 20.9: after as many steps as there are points and seconds in the longest wait
       abbrev pub final : Drama P AnyDuration → State
-      final r = run r (P .points + greatest (λ c. getD T c 0) (cells P))
+      final r = run r (stepsBy T)
+
+  -- 20.9: the observing points that came before x, counted
+  unfoldable pub observedBefore : State → ℕ → ℕ
+  observedBefore s x = count (λ j. ltb (s .step (P .observer j)) (s .step x)) (P .propositions)
 
   -- 20.9: the position of a point (17.5): ends 0, the observing points in the order in which they came, others behind
   unfoldable pub positionIn : State → ℕ → ℕ
   positionIn s x =
       cond (differs (P .finish) x (P .links))
-      (cond (differs (P .observer) x (P .propositions)) (suc (P .propositions)) (suc (count (λ j. ltb (s .step (P .observer j)) (s .step x)) (P .propositions))))
+      (cond (differs (P .observer) x (P .propositions)) (suc (P .propositions)) (suc (observedBefore s x)))
       0
 
 -- 20.10: a panel that follows the table keeps the plan, whatever the durations: every point comes, and the times and positions are those of
--- a panel that does
+-- a panel that keeps it
 pub record Followed (P : Plan) (T : List ℕ) (prefer : Preference) : Type 0 where
   pub all-come : (r : Drama P AnyDuration) (x : ℕ) → x < P .points → Is (executed (final P T prefer r) x)
   pub panel : Panel 1 P AnyDuration

@@ -11,6 +11,7 @@ use lib.Ieee.Fits.{and-l, and-r, and-i, eq→eqb}
 use lib.ListN.{getD}
 use Rattle.plan.specs.Plan.{Plan, width, cells}
 use Rattle.plan.proofs.Ranges.{WellFormed}
+use Rattle.plan.proofs.Truth.{is-not, or-right}
 use Rattle.rules.specs.declared.Line.{Line}
 use Rattle.rules.specs.declared.Ground.{Ground}
 use Rattle.rules.specs.declared.Rule.{Rule}
@@ -24,16 +25,12 @@ use Rattle.rules.proofs.InRange.{InRange, result-range}
 use Rattle.rules.proofs.Cells.{digit-lt, cell-at, at-range}
 use Rattle.rules_apply.proofs.SameLines.{same-equal, equal-same}
 use Rattle.rules_fill.specs.Parents.{givenPoint, firstPoint, secondPoint}
-use Rattle.rules_fill.proofs.PointLaws.{or-r}
 use Rattle.rules_ground.specs.Grounds.{holdsLine, Grounds}
 use Rattle.rules_ground.specs.Searching.{givesWith, Among, SecondAt, FirstAt, ByRule}
 
 -- ---- one pair of parents
 is : {b : Bool} → b ≡ true → Is b
 is e = subst Is (sym e) tt
-
-is-not : {b : Bool} → b ≡ false → Is b → ⊥
-is-not e t = subst Is e t
 
 module _ (P : Plan) (T : List ℕ) (k : Line) (r : Rule) (l : Line) (d : ℕ) where
   pub pair-empty : (b : Bool) → b ≡ holdsLine P T d → not b ≡ true → false ≡ givesWith P T k r l d
@@ -75,7 +72,7 @@ module _ (P : Plan) (T : List ℕ) where
 
   pub start-holds : Is (holdsLine P T 0)
   unfolding holdsLine
-  start-holds = or-r (ltb 0 (getD T 0 0)) _ (eq→eqb (zero-mod (width P)))
+  start-holds = or-right (ltb 0 (getD T 0 0)) _ (eq→eqb (zero-mod (width P)))
 
   pub holding : (c : ℕ) (b : Bool) → b ≡ holdsLine P T c → not b ≡ false → Is (holdsLine P T c)
   holding c b e t = is (sym e ∙ not-false b t)

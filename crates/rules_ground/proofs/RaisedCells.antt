@@ -14,6 +14,7 @@ use lib.Seq.{getD-take, getD-drop}
 use Rattle.plan.specs.Plan.{Plan, width, cells}
 use Rattle.plan.proofs.LabelLaws.{four-pos}
 use Rattle.plan.proofs.Ranges.{WellFormed}
+use Rattle.plan.proofs.Truth.{or-left, or-right}
 use Rattle.rules.specs.declared.Line.{Line}
 use Rattle.rules.specs.declared.Ground.{Ground}
 use Rattle.rules.specs.declared.Rule.{Rule}
@@ -25,7 +26,7 @@ use Rattle.rules_fill.specs.Parts.{part}
 use Rattle.rules.proofs.InRange.{InRange, result-range}
 use Rattle.rules.proofs.Monotone.{waiting}
 use Rattle.rules.proofs.Cells.{digit-lt, digit-mod, line-at}
-use Rattle.rules_fill.proofs.PointLaws.{place, waitAt, lineOf, isLine, firstOf, secondOf, gives, givenLine, fillPoint, Pair, Row, or-r, cell-place, line-range, line-place, first-in, second-in, count-in, fill-raises, fill-point}
+use Rattle.rules_fill.proofs.PointLaws.{place, waitAt, lineOf, isLine, firstOf, secondOf, gives, givenLine, fillPoint, Pair, Row, cell-place, line-range, line-place, first-in, second-in, count-in, fill-raises, fill-point}
 use Rattle.rules_ground.specs.Grounds.{holdsLine, Grounds}
 
 -- some ground of a line
@@ -36,10 +37,6 @@ pub record Grounded (P : Plan) (T : List ℕ) (k : Line) : Type 0 where
 or-either : (a b c : Bool) → (Is a → Is c) → (Is b → Is c) → Is (a || b) → Is c
 or-either true b c f g t = f t
 or-either false b c f g t = g t
-
-or-l : (a b : Bool) → Is a → Is (a || b)
-or-l true b t = tt
-or-l false b t = absurd t
 
 module _ (P : Plan) (wf : WellFormed P) (T : List ℕ) (len : length T ≡ cells P) where
   -- the cell at place t of point y
@@ -58,8 +55,8 @@ module _ (P : Plan) (wf : WellFormed P) (T : List ℕ) (len : length T ≡ cells
     holds-there =
         let c : ℕ = y * width P + t in
         or-either (eqb t 0) (ltb 0 (waitAt P T y t)) (holdsLine P T c)
-        (λ z. or-r (ltb 0 (getD T c 0)) (eqb (c % width P) 0) (eq→eqb (digit-mod y (width P) t k ∙ eqb→eq t 0 z)))
-        (λ z. or-l (ltb 0 (getD T c 0)) (eqb (c % width P) 0) z)
+        (λ z. or-right (ltb 0 (getD T c 0)) (eqb (c % width P) 0) (eq→eqb (digit-mod y (width P) t k ∙ eqb→eq t 0 z)))
+        (λ z. or-left (ltb 0 (getD T c 0)) (eqb (c % width P) 0) z)
 
   module _ (x t : ℕ) (inside : x < P .points) (here : t < width P) where
     -- the cell's wait is one that a pair of places gives

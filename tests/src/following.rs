@@ -2,7 +2,8 @@
 //!
 //! The table is the one that the check leaves for a plan that is kept. Besides
 //! it the panel goes by the answers that it has learnt, by how long links took
-//! that have ended, and by the clock. It looks at no edge of the plan.
+//! that have ended, and by the clock. Of the plan it looks at the observing
+//! points and at the links' rows, but at no most and no edge.
 //!
 //! - A line *agrees* with what has been learnt if no digit of its label is
 //!   unknown, and each yes or no is of a proposition not learnt yet or is the
@@ -22,7 +23,8 @@
 //! dramas. Let a point that is no end of a link come in one of them at some
 //! second. If all answers that were learnt there before the point are the same
 //! in the other, and so is the duration of every link that has ended by that
-//! second in either, the point comes at that second in the other too.
+//! second in either, the point comes at that second in the other too, and after
+//! the same observing points.
 
 use crate::second::{digit, has_link, lines_held, Line, Link, Plan};
 use std::iter;
@@ -232,8 +234,12 @@ pub fn reacts_to_what_is_seen(plan: &Plan, dramas: &[Drama], runs: &[Run]) -> bo
     let all = || iter::zip(dramas, runs);
     all().all(|(drama, run)| {
         decided.iter().all(|&point| {
-            let (second, before) = (run.times[point], run.before(point));
-            let learnt = |j: &usize| before.contains(&plan.observing[*j]);
+            let second = run.times[point];
+            let learnt = |j: &usize| run.before(point).contains(&plan.observing[*j]);
+            let asked = |run: &Run| -> Vec<usize> {
+                let before = run.before(point).iter().copied();
+                before.filter(|other| plan.observing.contains(other)).collect()
+            };
             let looks_the_same = |other: &Drama, other_run: &Run| {
                 let ended = |i: &usize| run.times[ends[*i]].min(other_run.times[ends[*i]]) <= second;
                 let mut answers = (0..plan.observing.len()).filter(learnt);
@@ -242,7 +248,8 @@ pub fn reacts_to_what_is_seen(plan: &Plan, dramas: &[Drama], runs: &[Run]) -> bo
                     && links.all(|i| drama.situation[i] == other.situation[i])
             };
             all().all(|(other, other_run)| {
-                other_run.times[point] == second || !looks_the_same(other, other_run)
+                let the_same = other_run.times[point] == second && asked(other_run) == asked(run);
+                the_same || !looks_the_same(other, other_run)
             })
         })
     })
