@@ -179,22 +179,25 @@ serving-is = refl
 
 -- ---- over the bytes of a plan
 module _ (bs : List ℕ) (accepted : Accepted bs) where
-  pub run-means-bytes : (limit : ℕ) (F G : List ℕ) → Meaning (planOf bs) limit (runOutcome (planOf bs) (zeros (planOf bs)) limit) (runTable (planOf bs) (zeros (planOf bs)) limit ++ F) (runTable (planOf bs) (zeros (planOf bs)) limit ++ G)
-  run-means-bytes limit = means (planOf bs) wf limit (runOutcome (planOf bs) (zeros (planOf bs)) limit) (runTable (planOf bs) (zeros (planOf bs)) limit) (run-says (planOf bs) wf limit) (run-length (planOf bs) wf (zeros (planOf bs)) (length-replicate (cells (planOf bs)) 0) limit)
+  abbrev P : Plan
+  P = planOf bs
+
+  pub run-means-bytes : (limit : ℕ) (F G : List ℕ) → Meaning P limit (runOutcome P (zeros P) limit) (runTable P (zeros P) limit ++ F) (runTable P (zeros P) limit ++ G)
+  run-means-bytes limit = means P wf limit (runOutcome P (zeros P) limit) (runTable P (zeros P) limit) (run-says P wf limit) (run-length P wf (zeros P) (length-replicate (cells P) 0) limit)
     where
-      wf : WellFormed (planOf bs)
+      wf : WellFormed P
       wf = accepted-well-formed bs accepted
 
   -- the limit that serves every accepted plan
-  pub serves : enoughRounds (planOf bs) ≤ servingLimit
+  pub serves : enoughRounds P ≤ servingLimit
   serves =
       let b = accepted-bounded bs accepted in
-      let h : planOf bs .horizon + planOf bs .largest + 1 ≤ 32 * mostSeconds + mostSeconds + 1 = omega (arith, b .horizon-in, b .largest-in) in
+      let h : P .horizon + P .largest + 1 ≤ 32 * mostSeconds + mostSeconds + 1 = omega (arith, b .horizon-in, b .largest-in) in
       rw serving-is (omega (arith, mul-le-mul (b .cells-in) h))
 
   -- enough rounds leave no plan undecided
-  pub decided : (limit : ℕ) (o : Outcome) (F G : List ℕ) → Meaning (planOf bs) limit o F G → servingLimit ≤ limit → IsSpent o → ⊥
-  decided limit (spent n) F G d h s = let e : enoughRounds (planOf bs) ≤ limit = omega (arith, serves) in d .kept-if (λ x. x) e (λ w. d .broken-if (λ x. x) e w)
+  pub decided : (limit : ℕ) (o : Outcome) (F G : List ℕ) → Meaning P limit o F G → servingLimit ≤ limit → IsSpent o → ⊥
+  decided limit (spent n) F G d h s = let e : enoughRounds P ≤ limit = omega (arith, serves) in d .kept-if (λ x. x) e (λ w. d .broken-if (λ x. x) e w)
   decided limit (kept r) F G d h s = s
   decided limit (broken r) F G d h s = s
   decided limit (refused n) F G d h s = s

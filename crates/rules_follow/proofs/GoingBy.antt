@@ -79,7 +79,8 @@ module _ {P : Plan} (T : List ℕ) (r : Drama P AnyDuration) (s : State) (links 
       go (inr q) (no d) =
           let e : waitOf P T x (l .set) (l .label) ≡ l .wait = ap (λ (y : ℕ). waitOf P T y (l .set) (l .label)) (sym (a .at)) ∙ q .holds in
           let waits : s .now < waitOf P T x (l .set) (l .label) + late P s D = omega (arith, e, a .waits, late-is D all) in
-          absurd (free (q .inside .set-in) (q .inside .label-in) (and-i (agrees P answers (l .label) && disjoint P D (l .set)) _ (and-i (agrees P answers (l .label)) _ (true-agrees r s (l .label) (a .digits)) (to-disjoint D (l .set) (a .links))) (lt→ltb (s .now) (waitOf P T x (l .set) (l .label) + late P s D) waits)))
+          let counts = and-i (agrees P answers (l .label)) _ (true-agrees r s (l .label) (a .digits)) (to-disjoint D (l .set) (a .links)) in
+          absurd (free (q .inside .set-in) (q .inside .label-in) (and-i (agrees P answers (l .label) && disjoint P D (l .set)) _ counts (lt→ltb (s .now) (waitOf P T x (l .set) (l .label) + late P s D) waits)))
 
   -- one that does not is held back
   pub held-back : (x D : ℕ) → x < P .points → AllEnded P s D → (Is (goesBy P T s answers x D) → ⊥) → HeldUntil T r s D x (suc (s .now))

@@ -141,7 +141,7 @@ module _ {P : Plan} (wf : WellFormed P) {T : List ℕ} (closed : Closed P T) (pr
     went = λ x hx ne d. absurd (omega arith);
   }
 
-  -- the law
+  -- after any number of steps
   pub holds : (m : ℕ) → Invariant T r (run P T prefer r m)
   unfolding run
   holds zero = initial-holds

@@ -69,7 +69,7 @@ module _ {P : Plan} (wf : WellFormed P) {T : List ℕ} (closed : Closed P T) (r 
     all-went : (x : ℕ) → x < P .points → WentBy T r x (time x)
     all-went = at-all P wf T closed (λ x. WentBy T r x (time x)) (timed .went) (λ i h b. subst (WentBy T r (P .finish i)) (sym (timed .on-time i h)) (end-by i h (time (P .activation i)) b))
 
-    -- the law
+    -- every edge whose label is true is kept
     pub keeps : (e : ℕ) → e < P .edges → True P (r .scenario) (P .label e) → time (P .to e) + P .down e ≤ time (P .from e) + P .up e
     keeps e h t = go (decLe (v + P .down e) (P .up e))
       where

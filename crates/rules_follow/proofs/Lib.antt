@@ -9,6 +9,5 @@ mod KeptEdges
 mod GoingBy
 mod Invariant
 mod Runs
-mod Positions
 mod Reacting
 pub mod Followed

@@ -13,13 +13,14 @@ use Rattle.plan.proofs.Ranges.{WellFormed}
 use Rattle.plan.proofs.Truth.{is?, same-test}
 use Rattle.rules_panel.specs.Dramas.{AnyDuration, Drama}
 use Rattle.rules_panel.specs.Strategies.{NoEnd, Strategy, Ended, SameHistory, SamePlace}
-use Rattle.rules_follow.specs.Following.{State, executed, Preference, learnt, due, stepsBy, act, nextState, run, final, positionIn}
+use Rattle.rules_panel.specs.Positions.{positionBy}
+use Rattle.rules_panel.proofs.Positions.{position-end, position-other, position-from, position-to, position-lower, position-distinct, position-same}
+use Rattle.rules_follow.specs.Following.{State, executed, Preference, learnt, due, stepsBy, act, nextState, run, final}
 use Rattle.rules_follow.proofs.Searching.{first-same}
 use Rattle.rules_follow.proofs.TableLines.{Closed}
 use Rattle.rules_follow.proofs.Stepping.{Executed, Running, of-due, to-due}
 use Rattle.rules_follow.proofs.Invariant.{holds}
 use Rattle.rules_follow.proofs.Runs.{stays, no-earlier, Came, came, one-each, all-come}
-use Rattle.rules_follow.proofs.Positions.{position-end, position-other, position-from, position-to, position-lower, position-distinct, position-same}
 
 module _ {P : Plan} (wf : WellFormed P) {T : List ℕ} (closed : Closed P T) (prefer : Preference) where
   abbrev N : ℕ
@@ -36,12 +37,12 @@ module _ {P : Plan} (wf : WellFormed P) {T : List ℕ} (closed : Closed P T) (pr
   abbrev pub strategy : Strategy P AnyDuration
   strategy = record {
     time = λ r x. final P T prefer r .time x;
-    position = λ r x. positionIn P (final P T prefer r) x;
-    end-first = λ r. position-end wf (final P T prefer r);
-    observing-from = λ r. position-from wf (final P T prefer r);
-    observing-to = λ r. position-to wf (final P T prefer r);
-    distinct = λ r i j h k. position-distinct wf (final P T prefer r) i j h k (λ e. wf .observer-once i j h k (one-each P T prefer r N (P .observer i) (P .observer j) (all-come wf closed prefer r (P .observer i) (wf .observer-in i h .1)) e));
-    other-last = λ r x h. position-other wf (final P T prefer r) x;
+    position = λ r x. positionBy P (final P T prefer r .step) x;
+    end-first = λ r. position-end wf (final P T prefer r .step);
+    observing-from = λ r. position-from wf (final P T prefer r .step);
+    observing-to = λ r. position-to wf (final P T prefer r .step);
+    distinct = λ r i j h k. position-distinct wf (final P T prefer r .step) i j h k (λ e. wf .observer-once i j h k (one-each P T prefer r N (P .observer i) (P .observer j) (all-come wf closed prefer r (P .observer i) (wf .observer-in i h .1)) e));
+    other-last = λ r x h. position-other wf (final P T prefer r .step) x;
   }
 
   -- two runs that are in one state after n steps, and a point that has come by then in the one
@@ -98,7 +99,7 @@ module _ {P : Plan} (wf : WellFormed P) {T : List ℕ} (closed : Closed P T) (pr
           same .observed j (r .scenario j) .0 (record {
             proposition = hj;
             by-then = omega (arith, k .time-is, b .time-is, c .time-is, no-earlier P T prefer r (b .before) M (omega (arith, b .within)));
-            before = position-lower wf (final P T prefer r) j x hj ne (omega (arith, k .step-is, b .step-is, b .within, c .step-is));
+            before = position-lower wf (final P T prefer r .step) j x hj ne (omega (arith, k .step-is, b .step-is, b .within, c .step-is));
             value = refl;
           }) .value
 
@@ -147,7 +148,7 @@ module _ {P : Plan} (wf : WellFormed P) {T : List ℕ} (closed : Closed P T) (pr
           let d : Executed (at r (suc M)) x = omega (arith, c .step-then) in
           let d′ : Executed (at u (suc M)) x = rw then d in
           stays P T prefer u (suc M) N x (c .within) d′ .time-is ∙ ap (λ (s : State). s .time x) then ∙ sym (stays P T prefer r (suc M) N x (c .within) d .time-is);
-      same-position = position-same P (final P T prefer u) (final P T prefer r) x (earlier-same hx);
+      same-position = position-same P (final P T prefer u .step) (final P T prefer r .step) x (earlier-same hx);
     }
 
   -- a point that is no end comes at the same time and place in two dramas with the same history of it

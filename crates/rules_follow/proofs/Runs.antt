@@ -166,7 +166,7 @@ module _ {P : Plan} (wf : WellFormed P) {T : List ℕ} (closed : Closed P T) (pr
       go (no u) c = when-none m (suc n) u x hx
       go (yes u) c = subst (λ (z : ℕ). Executed (run P T prefer r z) x) shift (c (omega (arith, h, less m u)) x hx)
 
-  -- the law
+  -- every point comes in as many steps as there are points and seconds in the longest wait
   pub all-come : (x : ℕ) → x < P .points → Executed (run P T prefer r (stepsBy P T)) x
   unfolding run measure left
   all-come x hx =

@@ -17,11 +17,12 @@ use Rattle.plan.proofs.Ranges.{WellFormed}
 use Rattle.plan.proofs.Truth.{is?, is-not}
 use Rattle.rules_panel.specs.Dramas.{AnyDuration, Drama}
 use Rattle.rules_panel.specs.Strategies.{NoEnd}
+use Rattle.rules_panel.proofs.Positions.{observer-no-end}
 use Rattle.rules_follow.specs.Following.{State}
 use Rattle.rules_follow.proofs.Lateness.{Out, sum-more, over, lateness}
-use Rattle.rules_follow.proofs.TableLines.{Closed, HasLine, start, weaker, clear-own, remove-literal, remove-link, upper-case, remove-own}
+use Rattle.rules_follow.proofs.TableLines.{Closed, HasLine, start, weaker, shorter, clear-own, remove-literal, remove-link, upper-case, remove-own}
 use Rattle.rules_follow.proofs.LinkChains.{at-all}
-use Rattle.rules_follow.proofs.Stepping.{Executed, done?, observer-no-end, Running}
+use Rattle.rules_follow.proofs.Stepping.{Executed, done?, Running}
 use Rattle.rules_follow.proofs.KnownDigits.{Known, known-plain, known-joins, Agrees}
 
 -- each link of a set has ended
@@ -109,7 +110,7 @@ module _ {P : Plan} (wf : WellFormed P) {T : List ℕ} (closed : Closed P T) (r 
         end i h before n = go (done? s (P .activation i))
           where
             up : {v : ℕ} → HasLine P T (P .activation i) v (Out D) (Known r s) → t - lateness r D ≤ v + P .most i → Sure T r s D (P .finish i) t
-            up a le = weaker (upper-case P wf T closed i h a (known-plain r s) (out i h n) (λ k q. q)) le (λ k hk q. q) (λ j d k q. q)
+            up a le = shorter (upper-case P wf T closed i h a (known-plain r s) (out i h n) (λ k q. q)) le
 
             go : Dec (Executed s (P .activation i)) → Sure T r s D (P .finish i) t
             go (no a) = up (before a) (omega arith)
@@ -157,12 +158,14 @@ module _ {P : Plan} (wf : WellFormed P) {T : List ℕ} (closed : Closed P T) (r 
           less = sum-more (over r) D (remove D m) m (P .links) c (omega arith) (λ k hk q. of-remove D m k q)
 
           by : {v : ℕ} → HasLine P T (P .activation m) v (Out D′) (Known r s) → t - lateness r D ≤ v + P .least m → Sure T r s D x t
-          by a le = remove-link P wf T closed m (omega arith) (weaker (all D′ hD′ ended′ x hx n) (omega (arith, less)) (λ i k q. q) (λ j f k q. q)) (remove-own P wf T closed m (omega arith) a (λ j k. inl refl) other) le (λ o. o c) (λ k hk. other k) (λ j f q. q) (known-joins r s)
+          by a le =
+              remove-link P wf T closed m (omega arith) (shorter (all D′ hD′ ended′ x hx n) (omega (arith, less))) (remove-own P wf T closed m (omega arith) a (λ j k. inl refl) other)
+              le (λ o. o c) (λ k hk. other k) (λ j f q. q) (known-joins r s)
 
           own : Dec (Executed s (P .activation m)) → Sure T r s D x t
           own (yes a) = by (idle .sure D′ hD′ (P .activation m) (wf .activation-in m (omega arith)) a) (omega (arith, less, idle .on-way m (omega arith) (record { begun = a; not-ended = d }), r .no-shorter m (omega arith)))
           own (no a) = by (all D′ hD′ ended′ (P .activation m) (wf .activation-in m (omega arith)) a) (omega (arith, less))
 
-  -- the law
+  -- whatever links are left out
   pub spread : (D : ℕ) → D < 2 ^ P .links → (x : ℕ) → x < P .points → (Executed s x → ⊥) → Sure T r s D x t
   spread D hD = letters (P .links) (le-refl _) D hD (λ i h c. inr h)

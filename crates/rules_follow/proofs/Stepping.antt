@@ -11,11 +11,12 @@ use lib.Ieee.Fits.{and-l, and-r, and-i}
 use borrow.Author.Tests.{lt-ltb, le-ltb}
 use Rattle.plan.specs.Plan.{Plan}
 use Rattle.plan.specs.Refusal.{differs}
-use Rattle.plan.proofs.Ranges.{WellFormed, differs-at, differs-of}
+use Rattle.plan.proofs.Ranges.{differs-at}
 use Rattle.plan.proofs.Truth.{is?, is-true, is-not}
 use Rattle.rules_panel.specs.Dramas.{AnyDuration, Drama}
 use Rattle.rules_panel.specs.Strategies.{NoEnd}
 use Rattle.rules_panel.proofs.Dramas.{changed-at, changed-off}
+use Rattle.rules_panel.proofs.Positions.{no-end-test}
 use Rattle.rules_follow.specs.Following.{first, State, executed, execute, pass, Preference, learnt, due, goesBy, ready, chosen, act, nextState}
 use Rattle.rules_follow.proofs.Searching.{first-passes, first-none, first-found}
 
@@ -52,15 +53,8 @@ comes-each s y fresh x = go (ℕ-discrete x y)
 pub still-executed : (s : State) (y : ℕ) → (Executed s y → ⊥) → (x : ℕ) → Executed s x → Executed (execute s y) x
 still-executed s y fresh x d = omega (arith, comes-off s y x (λ e. fresh (rw e at d)) .step-is, d)
 
--- ---- the end of no link, as a test
-pub no-end-test : (P : Plan) (x : ℕ) → NoEnd P x → Is (differs (P .finish) x (P .links))
-no-end-test P x n = differs-of (P .finish) x (P .links) (n .no-end)
-
 test-no-end : (P : Plan) (x : ℕ) → Is (differs (P .finish) x (P .links)) → NoEnd P x
 test-no-end P x t = record { no-end = λ i h e. differs-at (P .finish) x (P .links) i t h e }
-
-pub observer-no-end : {P : Plan} → WellFormed P → (j : ℕ) → j < P .propositions → NoEnd P (P .observer j)
-observer-no-end wf j h = record { no-end = λ i k e. wf .finish-observes-none i j k h e }
 
 -- a link that is on its way
 pub record Running (P : Plan) (s : State) (i : ℕ) : Type 0 where

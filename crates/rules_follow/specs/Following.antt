@@ -5,7 +5,6 @@ use mathlib.Core.List.{List}
 use Prim.Native.Nat.{ℕ, zero, suc, _+_, _-_, _^_, _<_}
 use lib.Dec.{T as Is, ltb, leb, eqb}
 use lib.ListN.{getD}
-use Rattle.plan.specs.Counting.{count}
 use Rattle.plan.specs.Label.{digit, plain}
 use Rattle.plan.specs.Layout.{greatest}
 use Rattle.plan.specs.LinkSet.{contains}
@@ -13,6 +12,7 @@ use Rattle.plan.specs.Plan.{Plan, cells}
 use Rattle.plan.specs.Refusal.{every, differs}
 use Rattle.rules.specs.Lines.{cellOf}
 use Rattle.rules_panel.specs.Dramas.{AnyDuration, Drama}
+use Rattle.rules_panel.specs.Positions.{positionBy}
 use Rattle.rules_panel.specs.Strategies.{Panel}
 
 -- the first number below n that passes a test, n if none does
@@ -147,21 +147,10 @@ module _ (P : Plan) where
       abbrev pub final : Drama P AnyDuration → State
       final r = run r (stepsBy T)
 
-  -- 20.9: the observing points that came before x, counted
-  unfoldable pub observedBefore : State → ℕ → ℕ
-  observedBefore s x = count (λ j. ltb (s .step (P .observer j)) (s .step x)) (P .propositions)
-
-  -- 20.9: the position of a point (17.5): ends 0, the observing points in the order in which they came, others behind
-  unfoldable pub positionIn : State → ℕ → ℕ
-  positionIn s x =
-      cond (differs (P .finish) x (P .links))
-      (cond (differs (P .observer) x (P .propositions)) (suc (P .propositions)) (suc (observedBefore s x)))
-      0
-
--- 20.10: a panel that follows the table keeps the plan, whatever the durations: every point comes, and the times and positions are those of
--- a panel that keeps it
+-- 20.10: a panel that follows the table keeps the plan, whatever the durations: every point comes, and the times, and the positions by the
+-- steps (20.9), are those of a panel that keeps it
 pub record Followed (P : Plan) (T : List ℕ) (prefer : Preference) : Type 0 where
   pub all-come : (r : Drama P AnyDuration) (x : ℕ) → x < P .points → Is (executed (final P T prefer r) x)
   pub panel : Panel 1 P AnyDuration
   pub its-time : (r : Drama P AnyDuration) (x : ℕ) → panel .strategy .time r x ≡ final P T prefer r .time x
-  pub its-position : (r : Drama P AnyDuration) (x : ℕ) → panel .strategy .position r x ≡ positionIn P (final P T prefer r) x
+  pub its-position : (r : Drama P AnyDuration) (x : ℕ) → panel .strategy .position r x ≡ positionBy P (final P T prefer r .step) x

@@ -2,7 +2,7 @@
 use mathlib.Core.Path.{_≡_, refl}
 use mathlib.Core.Logic.{_⊎_, inl, inr, ⊎-elim}
 use Prim.Native.Nat.{ℕ, zero, suc, _+_, _-_, _*_, _≤_, _<_}
-use native.Mathlib.Nat.{le-refl, zero-add, add-zero, add-suc}
+use native.Mathlib.Nat.{le-refl, add-zero, add-suc}
 use native.Mathlib.Decide.{ℕ-discrete, decLe, decLt}
 use native.Mathlib.Omega.{arith}
 
@@ -97,13 +97,6 @@ module _ (Q : ℕ → Type 0) (q : (x : ℕ) → Dec (Q x)) where
   unfolding count
   count-none zero f = refl
   count-none (suc n) f = omega (arith, one-not (q n) (f n), count-none n f)
-
--- not all, where some number does not have it
-pub count-under : (Q : ℕ → Type 0) (q : (x : ℕ) → Dec (Q x)) (n y : ℕ) → y < n → (Q y → ⊥) → count Q q n < n
-count-under Q q n y h f =
-    let a = count-few (λ x. Unit {0}) (λ x. yes tt) 0 n in
-    let b = count-zero (λ x. Unit {0}) (λ x. yes tt) in
-    omega (arith, count-lt Q (λ x. Unit {0}) q (λ x. yes tt) n (λ x k z. tt) y h f tt, rw zero-add at a)
 
 -- ---- the b numbers from e on
 abbrev pub From : ℕ → ℕ → ℕ → Type 0

@@ -1,17 +1,20 @@
 -- The horizon costs nothing: a panel that ends late gives one that ends within the horizon. A pause of more than M seconds, in which nothing happens, is cut to M, and
 -- positions follow the order of the moments.
 use mathlib.Core.Path.{_≡_, refl, sym, ap, subst, _∙_}
-use mathlib.Core.Logic.{inl, inr}
-use Prim.Native.Nat.{ℕ, suc, _+_, _-_, _*_, _/_, _≤_, _<_}
+use Prim.Native.Nat.{ℕ, _+_, _-_, _*_, _/_, _≤_, _<_}
 use native.Mathlib.Nat.{mul-le-mul-left, mul-div-cancel-left, le-antisymm, le-trans}
-use native.Mathlib.Decide.{decLe, decLt}
+use native.Mathlib.Decide.{decLe}
 use native.Mathlib.Omega.{arith}
+use lib.Dec.{T as Is, ltb, ltb→lt, lt→ltb}
 use Rattle.plan.specs.Plan.{Plan}
 use Rattle.plan.proofs.Ranges.{WellFormed}
+use Rattle.plan.proofs.Truth.{same-test}
 use Rattle.rules_panel.specs.Dramas.{Durations, Drama, True}
-use Rattle.rules_panel.specs.Strategies.{NoEnd, NotObserving, Strategy, Viable, SameHistory, SamePlace, Dynamic, Panel}
-use Rattle.rules_panel.proofs.Counts.{count, count-le, count-lt, count-zero, count-more, count-few, count-each, count-under, From, Near, near?, count-near}
-use Rattle.rules_panel.proofs.Moments.{Ends, ends?, Observes, observes?, moment, same-moment, sooner, up-to-time, one-position}
+use Rattle.rules_panel.specs.Positions.{positionBy}
+use Rattle.rules_panel.specs.Strategies.{NoEnd, Strategy, Viable, SameHistory, SamePlace, Dynamic, Panel}
+use Rattle.rules_panel.proofs.Counts.{count, count-le, count-zero, count-more, count-few, count-each, From, Near, near?, count-near}
+use Rattle.rules_panel.proofs.Moments.{moment, same-moment, sooner, up-to-time, one-position}
+use Rattle.rules_panel.proofs.Positions.{position-end, position-other, position-from, position-to, position-lower, position-distinct, position-same}
 use Rattle.rules_panel.proofs.Histories.{Alike, same-first, same-second}
 use Rattle.rules_panel.proofs.RuleSoundness.{InHorizon}
 
@@ -81,87 +84,24 @@ module _ {P : Plan} {E : Durations} {q : ℕ} (wf : WellFormed P) (some : 0 < q)
           let e = cut-near r (P .to i) (wf .to-in i h) d (omega (arith, mul-le-mul-left q (wf .down-le i h))) in
           omega (arith, cut-mono r (Y + d) X (omega arith))
 
-  -- ---- positions
-  -- the observing points that come before x
-  abbrev Precedes : Drama P E → ℕ → ℕ → Type 0
-  Precedes r x k = moment σ r (P .observer k) < moment σ r x
+  -- ---- positions: in the order of the moments
+  abbrev cutPosition : Drama P E → ℕ → ℕ
+  cutPosition r x = positionBy P (moment σ r) x
 
-  precedes? : (r : Drama P E) (x k : ℕ) → Dec (Precedes r x k)
-  precedes? r x k = decLt (moment σ r (P .observer k)) (moment σ r x)
-
-  preceding : Drama P E → ℕ → ℕ
-  preceding r x = count (Precedes r x) (precedes? r x) (P .propositions)
-
-  preceding-lt : (r : Drama P E) (j x : ℕ) → j < P .propositions → Precedes r x j → preceding r (P .observer j) < preceding r x
-  unfolding preceding
-  preceding-lt r j x h k = count-lt (Precedes r (P .observer j)) (Precedes r x) (precedes? r (P .observer j)) (precedes? r x) (P .propositions) (λ y _ l. omega arith) j h (λ l. omega arith) k
-
-  preceding-under : (r : Drama P E) (j : ℕ) → j < P .propositions → preceding r (P .observer j) < P .propositions
-  unfolding preceding
-  preceding-under r j h = count-under (Precedes r (P .observer j)) (precedes? r (P .observer j)) (P .propositions) j h (λ l. omega arith)
-
-  positionOf : {x : ℕ} → Ends P x → Observes P x → ℕ → ℕ
-  positionOf (inl e) o n = 0
-  positionOf (inr e) (inl o) n = suc n
-  positionOf (inr e) (inr o) n = suc (P .propositions)
-
-  cutPosition : Drama P E → ℕ → ℕ
-  cutPosition r x = positionOf (ends? P x) (observes? P x) (preceding r x)
-
-  of-end : (r : Drama P E) (i : ℕ) → i < P .links → cutPosition r (P .finish i) ≡ 0
-  unfolding cutPosition positionOf
-  of-end r i h = go (ends? P (P .finish i)) (observes? P (P .finish i))
-    where
-      go : (e : Ends P (P .finish i)) (o : Observes P (P .finish i)) → positionOf e o (preceding r (P .finish i)) ≡ 0
-      go (inl e) o = refl
-      go (inr e) o = absurd (e .no-end i h refl)
-
-  of-observer : (r : Drama P E) (j : ℕ) → j < P .propositions → cutPosition r (P .observer j) ≡ suc (preceding r (P .observer j))
-  unfolding cutPosition positionOf
-  of-observer r j h = go (ends? P (P .observer j)) (observes? P (P .observer j))
-    where
-      go : (e : Ends P (P .observer j)) (o : Observes P (P .observer j)) → positionOf e o (preceding r (P .observer j)) ≡ suc (preceding r (P .observer j))
-      -- an observing point is no end: their positions differ
-      go (inl e) o = absurd (omega (arith, ap (σ .position r) (e .is), σ .end-first r (e .number) (e .under), σ .observing-from r j h))
-      go (inr e) (inl o) = refl
-      go (inr e) (inr o) = absurd (o .not-observing j h refl)
-
-  of-other : (r : Drama P E) (x : ℕ) → NoEnd P x → NotObserving P x → cutPosition r x ≡ suc (P .propositions)
-  unfolding cutPosition positionOf
-  of-other r x n m = go (ends? P x) (observes? P x)
-    where
-      go : (e : Ends P x) (o : Observes P x) → positionOf e o (preceding r x) ≡ suc (P .propositions)
-      go (inl e) o = absurd (n .no-end (e .number) (e .under) (e .is))
-      go (inr e) (inl o) = absurd (m .not-observing (o .number) (o .under) (o .is))
-      go (inr e) (inr o) = refl
-
-  -- a lower position where it comes before
-  of-preceding : (r : Drama P E) (j x : ℕ) → j < P .propositions → NoEnd P x → Precedes r x j → cutPosition r (P .observer j) < cutPosition r x
-  of-preceding r j x h n k = go (observes? P x)
-    where
-      go : Observes P x → cutPosition r (P .observer j) < cutPosition r x
-      go (inl o) = let e = ap (cutPosition r) (o .is) in let f = ap (preceding r) (o .is) in omega (arith, of-observer r j h, of-observer r (o .number) (o .under), preceding-lt r j x h k)
-      go (inr o) = omega (arith, of-observer r j h, preceding-under r j h, of-other r x n o)
-
-  -- of two observing points one comes before the other
-  apart : (r : Drama P E) (i j : ℕ) → i < P .propositions → j < P .propositions → preceding r (P .observer i) ≡ preceding r (P .observer j) → i ≡ j
-  apart r i j h k e = go (precedes? r (P .observer j) i) (precedes? r (P .observer i) j)
-    where
-      go : Dec (Precedes r (P .observer j) i) → Dec (Precedes r (P .observer i) j) → i ≡ j
-      go (yes a) b = absurd (omega (arith, preceding-lt r i (P .observer j) h a))
-      go (no a) (yes b) = absurd (omega (arith, preceding-lt r j (P .observer i) k b))
-      go (no a) (no b) = σ .distinct r i j h k (one-position σ r r (P .observer i) (P .observer j) (wf .observer-in i h .1) (wf .observer-in j k .1) (omega arith))
+  -- no two observing points come at one moment
+  apart : (r : Drama P E) (i j : ℕ) → i < P .propositions → j < P .propositions → moment σ r (P .observer i) ≡ moment σ r (P .observer j) → i ≡ j
+  apart r i j h k e = σ .distinct r i j h k (one-position σ r r (P .observer i) (P .observer j) (wf .observer-in i h .1) (wf .observer-in j k .1) e)
 
   -- ---- the panel with its pauses cut
   cut : Strategy P E
   cut = record {
     time = λ r x. cutTime r (σ .time r x);
     position = cutPosition;
-    end-first = of-end;
-    observing-from = λ r j h. omega (arith, of-observer r j h);
-    observing-to = λ r j h. omega (arith, of-observer r j h, preceding-under r j h);
-    distinct = λ r i j h k e. apart r i j h k (omega (arith, of-observer r i h, of-observer r j k));
-    other-last = λ r x h. of-other r x;
+    end-first = λ r. position-end wf (moment σ r);
+    observing-from = λ r. position-from wf (moment σ r);
+    observing-to = λ r. position-to wf (moment σ r);
+    distinct = λ r i j h k. position-distinct wf (moment σ r) i j h k (apart r i j h k);
+    other-last = λ r x h. position-other wf (moment σ r) x;
   }
 
   cut-viable : Viable cut q
@@ -194,11 +134,11 @@ module _ {P : Plan} {E : Durations} {q : ℕ} (wf : WellFormed P) (some : 0 < q)
         let e = s .ended i (q * u .situation i) .1 (record { link = h; by-then = k; took = keeps-links u i h }) .took in
         same-ticks (cutTime r (σ .time r (P .activation i))) (r .situation i) (u .situation i) (sym (keeps-links r i h) ∙ e)
 
-    told : (j : ℕ) → j < P .propositions → Precedes r x j → r .scenario j ≡ u .scenario j
+    told : (j : ℕ) → j < P .propositions → moment σ r (P .observer j) < moment σ r x → r .scenario j ≡ u .scenario j
     unfolding cut
     told j h k =
         let t = up-to-time σ r r (P .observer j) x inside (omega arith) in
-        sym (s .observed j (r .scenario j) .0 (record { proposition = h; by-then = cut-mono r (σ .time r (P .observer j)) (σ .time r x) t; before = of-preceding r j x h n k; value = refl }) .value)
+        sym (s .observed j (r .scenario j) .0 (record { proposition = h; by-then = cut-mono r (σ .time r (P .observer j)) (σ .time r x) t; before = position-lower wf (moment σ r) j x h n k; value = refl }) .value)
 
     like : Alike σ r u (moment σ r x)
     like = record {
@@ -226,17 +166,28 @@ module _ {P : Plan} {E : Durations} {q : ℕ} (wf : WellFormed P) (some : 0 < q)
         (cut-alike u r (σ .time r x) (λ y l k. sym (of-second y l (omega (arith, sooner σ u r y x l k)) .same-time)))
         (cut-alike r u (σ .time r x) (λ y l k. of-first y l (omega (arith, sooner σ r r y x l k)) .same-time))
 
-    same-preceding : preceding u x ≡ preceding r x
-    unfolding preceding
-    same-preceding =
-        let e = same-moment σ r u x here in
-        le-antisymm
-        (count-le (Precedes u x) (Precedes r x) (precedes? u x) (precedes? r x) (P .propositions) (λ k h b. omega (arith, same-moment σ r u (P .observer k) (of-second (P .observer k) (wf .observer-in k h .1) (omega arith)))))
-        (count-le (Precedes r x) (Precedes u x) (precedes? r x) (precedes? u x) (P .propositions) (λ k h b. omega (arith, same-moment σ r u (P .observer k) (of-first (P .observer k) (wf .observer-in k h .1) (omega arith)))))
+    same-before : (j : ℕ) → j < P .propositions → ltb (moment σ u (P .observer j)) (moment σ u x) ≡ ltb (moment σ r (P .observer j)) (moment σ r x)
+    same-before j h = same-test (ltb (moment σ u (P .observer j)) (moment σ u x)) (ltb (moment σ r (P .observer j)) (moment σ r x)) to from
+      where
+        inside-j : P .observer j < P .points
+        inside-j = wf .observer-in j h .1
+
+        e : moment σ u x ≡ moment σ r x
+        e = same-moment σ r u x here
+
+        to : Is (ltb (moment σ u (P .observer j)) (moment σ u x)) → Is (ltb (moment σ r (P .observer j)) (moment σ r x))
+        to t =
+            let l = ltb→lt (moment σ u (P .observer j)) (moment σ u x) t in
+            lt→ltb (moment σ r (P .observer j)) (moment σ r x) (omega (arith, l, e, same-moment σ r u (P .observer j) (of-second (P .observer j) inside-j (omega (arith, l, e)))))
+
+        from : Is (ltb (moment σ r (P .observer j)) (moment σ r x)) → Is (ltb (moment σ u (P .observer j)) (moment σ u x))
+        from t =
+            let l = ltb→lt (moment σ r (P .observer j)) (moment σ r x) t in
+            lt→ltb (moment σ u (P .observer j)) (moment σ u x) (omega (arith, l, e, same-moment σ r u (P .observer j) (of-first (P .observer j) inside-j (omega (arith, l)))))
 
     same-place : SamePlace cut r u x
-    unfolding cut cutPosition
-    same-place = record { same-time = same-time; same-position = ap (positionOf (ends? P x) (observes? P x)) same-preceding }
+    unfolding cut
+    same-place = record { same-time = same-time; same-position = position-same P (moment σ u) (moment σ r) x same-before }
 
   cut-dynamic : Dynamic cut
   unfolding cut

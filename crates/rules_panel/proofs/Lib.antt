@@ -1,5 +1,6 @@
 pub mod Dramas
 pub mod Moments
+pub mod Positions
 pub mod Histories
 pub mod LineMeaning
 pub mod RuleSoundness

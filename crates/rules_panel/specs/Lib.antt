@@ -1,2 +1,3 @@
 pub mod Dramas
 pub mod Strategies
+pub mod Positions
