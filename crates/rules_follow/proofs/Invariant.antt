@@ -31,6 +31,7 @@ since-not : (s : State) (x : ℕ) → (Executed s x → ⊥) → since s x ≡ s
 since-not s x n = rw (le-ltb 0 (s .step x) (omega arith))
 
 module _ {P : Plan} (T : List ℕ) (r : Drama P AnyDuration) where
+  -- links are as the drama has them; every point has, whatever links are left out, a line all of it known, of its time or of now; and went by some set, if it is no end
   pub record Invariant (s : State) : Type 0 where
     pub links : (i : ℕ) → i < P .links → LinkIn r s i
     pub sure : (D : ℕ) → D < 2 ^ P .links → (x : ℕ) → x < P .points → Sure T r s D x (since s x)
