@@ -1,17 +1,21 @@
 -- When a point comes in a run: its step, no two points in one, and every point within the points and the longest wait.
 use mathlib.Core.Path.{_≡_, refl, sym, ap, subst, _∙_}
+use mathlib.Core.Bool.{not}
 use mathlib.Core.Logic.{_⊎_, inl, inr}
 use mathlib.Core.List.{List}
 use Prim.Native.Nat.{ℕ, zero, suc, _+_, _-_, _≤_, _<_}
-use native.Mathlib.Nat.{le-refl, zero-add}
+use native.Mathlib.Nat.{le-refl}
 use native.Mathlib.Decide.{ℕ-discrete, decLe}
 use native.Mathlib.Omega.{arith}
+use lib.Dec.{T-not, not-T, ltb→lt, lt→ltb}
 use lib.Pow.{pow-pos}
+use Rattle.plan.specs.Counting.{count}
 use Rattle.plan.specs.Plan.{Plan}
+use Rattle.plan.proofs.CountLaws.{count-few, count-lt}
 use Rattle.plan.proofs.Ranges.{WellFormed}
 use Rattle.rules_panel.specs.Dramas.{AnyDuration, Drama}
-use Rattle.rules_panel.proofs.Counts.{count, count-lt, count-zero, count-few, Some, some?}
-use Rattle.rules_follow.specs.Following.{State, initial, execute, pass, Preference, longestWait, stepsBy, run}
+use Rattle.rules_panel.proofs.Counts.{Some, some?}
+use Rattle.rules_follow.specs.Following.{State, initial, executed, execute, pass, Preference, longestWait, stepsBy, run}
 use Rattle.rules_follow.proofs.Lateness.{none-late}
 use Rattle.rules_follow.proofs.TableLines.{Closed}
 use Rattle.rules_follow.proofs.LinkChains.{has-le}
@@ -109,13 +113,9 @@ module _ (P : Plan) (T : List ℕ) (prefer : Preference) (r : Drama P AnyDuratio
       go (inr a) (inr b) c = one-new (step-at n) x y a b
 
 -- ---- the end of a run
-not? : {A : Type 0} → Dec A → Dec (A → ⊥)
-not? (yes a) = no (λ f. f a)
-not? (no a) = yes a
-
 -- the points that have not come, and the seconds up to the longest wait
 left : Plan → State → ℕ
-left P s = count (λ x. Executed s x → ⊥) (λ x. not? (done? s x)) (P .points)
+left P s = count (λ x. not (executed s x)) (P .points)
 
 measure : Plan → List ℕ → State → ℕ
 measure P T s = left P s + (longestWait P T - s .now)
@@ -123,8 +123,9 @@ measure P T s = left P s + (longestWait P T - s .now)
 left-less : (P : Plan) (s : State) (y : ℕ) → (Executed s y → ⊥) → y < P .points → left P (execute s y) < left P s
 unfolding left
 left-less P s y n h =
-    count-lt (λ x. Executed (execute s y) x → ⊥) (λ x. Executed s x → ⊥) (λ x. not? (done? (execute s y) x)) (λ x. not? (done? s x)) (P .points)
-    (λ x k f d. f (still-executed s y n x d)) y h (λ f. f (omega (arith, comes-at s y y refl .0))) n
+    count-lt (λ x. not (executed (execute s y) x)) (λ x. not (executed s x)) (P .points)
+    (λ x k t. not-T (executed s x) (λ d. T-not (executed (execute s y) x) t (lt→ltb 0 (execute s y .step x) (still-executed s y n x (ltb→lt 0 (s .step x) d)))))
+    y h (λ t. T-not (executed (execute s y) y) t (lt→ltb 0 (execute s y .step y) (omega (arith, comes-at s y y refl .0)))) (not-T (executed s y) (λ d. n (ltb→lt 0 (s .step y) d)))
 
 module _ {P : Plan} (wf : WellFormed P) {T : List ℕ} (closed : Closed P T) (prefer : Preference) (r : Drama P AnyDuration) where
   progress : (s : State) → Invariant T r s → (x : ℕ) → x < P .points → (Executed s x → ⊥) → (u : State) → Stepped T r s u → measure P T u < measure P T s
@@ -140,6 +141,10 @@ module _ {P : Plan} (wf : WellFormed P) {T : List ℕ} (closed : Closed P T) (pr
 
   left? : (m : ℕ) → Dec (Left m)
   left? m = some? (λ x. Executed (run P T prefer r m) x → ⊥) (λ x. not? (done? (run P T prefer r m) x)) (P .points)
+    where
+      not? : {A : Type 0} → Dec A → Dec (A → ⊥)
+      not? (yes a) = no (λ f. f a)
+      not? (no a) = yes a
 
   less : (m : ℕ) → Left m → measure P T (run P T prefer r (suc m)) < measure P T (run P T prefer r m)
   less m u = progress (run P T prefer r m) (holds wf closed prefer r m) (u .number) (u .under) (u .holds) (run P T prefer r (suc m)) (step-at P T prefer r m)
@@ -172,6 +177,4 @@ module _ {P : Plan} (wf : WellFormed P) {T : List ℕ} (closed : Closed P T) (pr
   all-come x hx =
       let n = stepsBy P T in
       let e : n + 0 ≡ n = omega arith in
-      let a = count-few (λ x. Executed initial x → ⊥) (λ x. not? (done? initial x)) 0 (P .points) in
-      let z = count-zero (λ x. Executed initial x → ⊥) (λ x. not? (done? initial x)) in
-      subst (λ (z : ℕ). Executed (run P T prefer r z) x) e (all-in n 0 (omega (arith, z, rw zero-add at a)) x hx)
+      subst (λ (z : ℕ). Executed (run P T prefer r z) x) e (all-in n 0 (omega (arith, count-few (λ x. not (executed initial x)) (P .points))) x hx)

@@ -16,12 +16,6 @@ one-le (yes h) (yes k) f = omega arith
 one-le (yes h) (no k) f = absurd (k (f h))
 one-le (no h) b f = omega arith
 
-one-lt : {A B : Type 0} (a : Dec A) (b : Dec B) → (A → ⊥) → B → one a < one b
-unfolding one
-one-lt (yes h) b f g = absurd (f h)
-one-lt (no h) (yes k) f g = omega arith
-one-lt (no h) (no k) f g = absurd (k g)
-
 one-or : {A B C : Type 0} (a : Dec A) (b : Dec B) (c : Dec C) → (A → B ⊎ C) → one a ≤ one b + one c
 unfolding one
 one-or (no h) b c f = omega arith
@@ -54,16 +48,6 @@ module _ (Q R : ℕ → Type 0) (q : (x : ℕ) → Dec (Q x)) (r : (x : ℕ) →
   unfolding count
   count-le zero f = omega arith
   count-le (suc n) f = omega (arith, one-le (q n) (r n) (f n (omega arith)), count-le n (λ x h. f x (omega arith)))
-
-  -- fewer where some number has only the second
-  pub count-lt : (n : ℕ) → ((x : ℕ) → x < n → Q x → R x) → (y : ℕ) → y < n → (Q y → ⊥) → R y → count Q q n < count R r n
-  unfolding count
-  count-lt zero f y h a b = absurd (omega arith)
-  count-lt (suc n) f y h a b = go (λ l. count-lt n (λ x h. f x (omega arith)) y l a b) (ℕ-discrete y n)
-    where
-      go : (y < n → count Q q n < count R r n) → Dec (y ≡ n) → one (q n) + count Q q n < one (r n) + count R r n
-      go c (yes e) = omega (arith, one-lt (q n) (r n) (rw e at a) (rw e at b), count-le n (λ x h. f x (omega arith)))
-      go c (no e) = omega (arith, one-le (q n) (r n) (f n (omega arith)), c (omega arith))
 
   -- of one property or another
   pub count-or : (S : ℕ → Type 0) (s : (x : ℕ) → Dec (S x)) → ((x : ℕ) → S x → Q x ⊎ R x) → (n : ℕ) → count S s n ≤ count Q q n + count R r n
