@@ -365,7 +365,7 @@ fn preferences(points: usize) -> [Vec<usize>; 3] {
     [lowest, highest, other]
 }
 
-/// The panel keeps the plan in these dramas, in whatever order. The order
+/// The panel keeps the plan in these dramas, in each of three orders. The order
 /// changes no time, since what is learnt only makes lines disagree; nor do
 /// lines with an unknown digit.
 fn follows_table(plan: &Plan, table: &[u32], dramas: &[Drama], compared: bool, shown: &dyn Fn() -> String) {
@@ -509,7 +509,7 @@ fn times_that_do_not_keep() {
     assert!(!keeps(&plan, &drama, &[0, 2]) && !keeps(&plan, &drama, &[0, 4]));
 }
 
-/// Runs that no panel makes: point 2 knows an answer before it is learnt, or a
+/// Runs that no panel makes: a point knows an answer before it is learnt, or a
 /// duration before the link has ended.
 #[test]
 fn reactions_to_what_is_not_seen() {
@@ -524,6 +524,14 @@ fn reactions_to_what_is_not_seen() {
     assert!(!react(&plan, &[run([0, 2, 2], [0, 2, 1]), run([0, 2, 3], [0, 1, 2])]));
     assert!(!react(&plan, &[run([0, 2, 1], [0, 2, 1]), run([0, 2, 3], [0, 1, 2])]));
     assert!(!react(&plan, &[run([0, 2, 3], [0, 1, 2]), run([0, 2, 1], [0, 2, 1])]));
+
+    // Both are asked at once. The first answer is yes in the first two dramas,
+    // and which is asked first may not depend on it.
+    let plan = Draft { points: 3, observing: vec![1, 2], links: vec![], edges: vec![] };
+    let at_once = |order| run([0, 0, 0], order);
+    let (first, other) = (at_once([0, 1, 2]), at_once([0, 2, 1]));
+    assert!(react(&plan, &[first.clone(), first.clone(), first.clone(), first.clone()]));
+    assert!(!react(&plan, &[first.clone(), first, other.clone(), other]));
 
     // The link takes 1 s in the first drama, and 2 s and 3 s in the others.
     let link = Link { activation: 0, end: 1, least: 1, most: 3 };
