@@ -8,6 +8,7 @@ use native.Mathlib.Omega.{arith}
 use lib.ListN.{length, getD, take}
 use Rattle.plan.specs.Plan.{Plan, cells}
 use Rattle.plan.specs.Layout.{planOf}
+use Rattle.plan.specs.Horizons.{planWith}
 use Rattle.plan.specs.Refusal.{Accepted}
 use Rattle.rules.specs.Tables.{next}
 use Rattle.rules_fill.specs.Parts.{AtMost, laidOver}
@@ -38,7 +39,7 @@ pub record Counted (P : Plan) (lines n : ℕ) (F F′ G′ : List ℕ) : Type 0 
 
 -- a round, the count and the copy; the code's number e is the cells
 pub round-counted : (bs M : List ℕ) (h : ℕ) (F G : List ℕ) → Exact bs M h F G → (lines n e : ℕ) (F′ G′ : List ℕ) → e ≡ cells (planOf bs)
-    → G′ ≡ laidOver (cells (planOf bs)) (next (planOf bs) (take (cells (planOf bs)) F)) G → ((P : Plan) → n ≡ min 4097 (lines + length (raisedLines P F G′ (length F)))) → F′ ≡ laidOver e G′ F → Counted (planOf bs) lines n F F′ G′
+    → G′ ≡ laidOver (cells (planOf bs)) (next (planWith bs h) (take (cells (planOf bs)) F)) G → ((P : Plan) → n ≡ min 4097 (lines + length (raisedLines P F G′ (length F)))) → F′ ≡ laidOver e G′ F → Counted (planOf bs) lines n F F′ G′
 round-counted bs M h F G x lines n e F′ G′ k g c f =
     let P = planOf bs in
     let second = round-exact bs M h F G x G′ g in

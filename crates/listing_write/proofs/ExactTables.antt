@@ -1,5 +1,5 @@
 -- Tables of just a plan's cells: what a round, a copy and a clearing leave there; and the tables up to the round in which a plan breaks leave room for a duration.
-use mathlib.Core.Path.{_≡_, sym, ap, _∙_}
+use mathlib.Core.Path.{_≡_, sym, ap, ap₂, _∙_}
 use mathlib.Core.List.{List, _++_, append-nil}
 use Prim.Native.Nat.{ℕ, suc, _-_, _≤_}
 use native.Mathlib.Decide.{decLe}
@@ -8,8 +8,10 @@ use lib.ListN.{length, getD, take, drop, replicate, length-replicate, List·getD
 use lib.Seq.{take-all, drop-length}
 use Rattle.plan.specs.Plan.{Plan, cells}
 use Rattle.plan.specs.Layout.{planOf}
+use Rattle.plan.specs.Horizons.{planWith}
 use Rattle.plan.specs.Refusal.{Accepted}
 use Rattle.plan.proofs.Ranges.{accepted-well-formed, accepted-bounded}
+use Rattle.plan.proofs.Horizons.{own-horizon}
 use Rattle.rules.specs.Tables.{next}
 use Rattle.rules.proofs.Next.{next-is}
 use Rattle.rules_fill.specs.Parts.{AtMost, laidOver}
@@ -36,7 +38,7 @@ clear-exact P n T T′ k t e = copy-exact n (replicate n 0) T T′ (length-repli
 -- ---- a round
 module _ (bs M : List ℕ) (h : ℕ) (F G : List ℕ) (x : Exact bs M h F G) where
   pub exact-ready : Ready bs M h F G
-  exact-ready = record { accepted = x .accepted; marked = x .marked; horizon-is = x .horizon-is; long-first = omega (arith, x .first-length); long-second = omega (arith, x .second-length) }
+  exact-ready = record { accepted = x .accepted; marked = x .marked; horizon-far = omega (arith, x .horizon-is); long-first = omega (arith, x .first-length); long-second = omega (arith, x .second-length) }
 
   -- for the tables that later calls are lent
   pub exact-on : (F′ G′ : List ℕ) → length F′ ≡ length F → length G′ ≡ length G → Exact bs M h F′ G′
@@ -51,8 +53,8 @@ module _ (bs M : List ℕ) (h : ℕ) (F G : List ℕ) (x : Exact bs M h F G) whe
   pub next-exact : length (next (planOf bs) F) ≡ cells (planOf bs)
   next-exact = next-is (planOf bs) (accepted-well-formed bs (x .accepted)) F (x .first-length) .as-long ∙ x .first-length
 
-  pub round-exact : (G′ : List ℕ) → G′ ≡ laidOver (cells (planOf bs)) (next (planOf bs) (take (cells (planOf bs)) F)) G → G′ ≡ next (planOf bs) F
-  round-exact G′ e = copy-exact (cells (planOf bs)) (next (planOf bs) F) G G′ next-exact (x .second-length) (e ∙ ap (λ (l : List ℕ). laidOver (cells (planOf bs)) (next (planOf bs) l) G) all-cells)
+  pub round-exact : (G′ : List ℕ) → G′ ≡ laidOver (cells (planOf bs)) (next (planWith bs h) (take (cells (planOf bs)) F)) G → G′ ≡ next (planOf bs) F
+  round-exact G′ e = copy-exact (cells (planOf bs)) (next (planOf bs) F) G G′ next-exact (x .second-length) (e ∙ ap₂ (λ (P : Plan) (l : List ℕ). laidOver (cells (planOf bs)) (next P l) G) (own-horizon bs h (x .horizon-is)) all-cells)
 
 -- ---- the tables of a broken plan
 pub breaks-after : (P : Plan) (r : ℕ) → BreaksIn P r → r ≡ suc (r - 1)

@@ -9,6 +9,7 @@ use lib.ListN.{length, getD, set, take}
 use Rattle.plan.specs.Label.{Marks}
 use Rattle.plan.specs.Plan.{Plan, width, cells}
 use Rattle.plan.specs.Layout.{planOf}
+use Rattle.plan.specs.Horizons.{planWith}
 use Rattle.plan.specs.Refusal.{Accepted}
 use Rattle.plan.proofs.Ranges.{accepted-well-formed}
 use Rattle.rules.specs.declared.Line.{Line}
@@ -58,7 +59,7 @@ module _ (T U : List ℕ) (w : ℕ) where
 -- ---- one round
 module _ (plan marks : List ℕ) (horizon : ℕ) (F G I out : List ℕ) (m at : ℕ) (d : RoundReady plan marks horizon F G I out m at) where
   -- the second table was filled
-  module _ (G₁ : List ℕ) (filled : G₁ ≡ laidOver (cells (planOf plan)) (next (planOf plan) (take (cells (planOf plan)) F)) G) (as-long : length G₁ ≡ length G) where
+  module _ (G₁ : List ℕ) (filled : G₁ ≡ laidOver (cells (planOf plan)) (next (planWith plan horizon) (take (cells (planOf plan)) F)) G) (as-long : length G₁ ≡ length G) where
     pub filled-next : G₁ ≡ next (planOf plan) F
     filled-next = round-exact plan marks horizon F G (d .exact) G₁ filled
 

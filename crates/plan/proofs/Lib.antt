@@ -5,6 +5,8 @@ pub mod LabelLaws
 pub mod Digits
 pub mod Places
 pub mod Ranges
+pub mod Horizons
+pub mod Fewer
 mod Greatest
 mod Marked
 mod Weights

@@ -1,6 +1,6 @@
 -- What code and rules need of a plan, and: an accepted plan has it.
-use mathlib.Core.Path.{_≡_, refl, sym}
-use mathlib.Core.Bool.{Bool, true, false, cond, not}
+use mathlib.Core.Path.{_≡_, refl, sym, ap, ap₂}
+use mathlib.Core.Bool.{Bool, true, false, cond, not, _&&_}
 use mathlib.Core.List.{List}
 use Prim.Native.Nat.{ℕ, zero, suc, _*_, _^_, _≤_, _<_, max}
 use native.Mathlib.Nat.{le-refl, le-trans, mul-le-mul, le-max-left, le-max-right}
@@ -9,10 +9,12 @@ use native.Mathlib.Omega.{arith}
 use lib.Dec.{T as Is, ltb, eqb, T-not, ltb→lt, leb→le, eqb→eq, not-T}
 use lib.Ieee.Fits.{and-l, and-r, and-i, eq→eqb}
 use lib.ListN.{length}
+use borrow.Author.Tests.{le-ltb, eq-eqb}
 use Rattle.plan.specs.Label.{plain}
 use Rattle.plan.specs.Plan.{Plan, cells}
 use Rattle.plan.specs.Layout.{planOf, greatest, mostAt, downAt, largestOf, lengthFor}
 use Rattle.plan.specs.Refusal.{every, differs, sizesFit, observerFits, linkEndsFit, mostSeconds, durationFits, linkFits, edgeEndsFit, labelFits, edgeFits, refusalOf, refusal, Accepted}
+use Rattle.plan.proofs.Truth.{is-true}
 
 -- of any plan, also of one that no bytes stand for: rows lie among the points, durations are ordered, M bounds what a rule adds to a wait,
 -- the horizon is n × M or more, no two propositions have one observing point, no two links one end, and no end observes
@@ -59,6 +61,16 @@ unfolding every
 every-of f zero h = tt
 every-of f (suc n) h = and-i (every f n) (f n) (every-of f n (λ i k. h i (omega arith))) (h n (omega arith))
 
+-- tests that agree on each row, and numbers that agree
+pub every-same : (f g : ℕ → Bool) (n : ℕ) → ((i : ℕ) → i < n → f i ≡ g i) → every f n ≡ every g n
+unfolding every
+every-same f g zero h = refl
+every-same f g (suc n) h = ap₂ _&&_ (every-same f g n (λ i k. h i (omega arith))) (h n (omega arith))
+
+pub differs-same : (f g : ℕ → ℕ) (x n : ℕ) → ((i : ℕ) → i < n → f i ≡ g i) → differs f x n ≡ differs g x n
+unfolding differs
+differs-same f g x n h = every-same _ _ n (λ i k. ap (λ (y : ℕ). not (eqb y x)) (h i k))
+
 pub differs-at : (f : ℕ → ℕ) (x n i : ℕ) → Is (differs f x n) → i < n → f i ≡ x → ⊥
 unfolding differs
 differs-at f x n i t h e = T-not (eqb (f i) x) (every-at (λ i. not (eqb (f i) x)) n i t h) (eq→eqb e)
@@ -100,14 +112,14 @@ greatest-le f b zero h = omega arith
 greatest-le f b (suc n) h = omega (arith, greatest-le f b n (λ i k. h i (omega arith)), h n (omega arith))
 
 -- ---- what acceptance says, refusal by refusal
-record Judged (bs : List ℕ) (P : Plan) : Type 0 where
-  sizes : Is (sizesFit P)
-  long : length bs ≡ lengthFor P
-  observers : Is (every (observerFits P) (P .propositions))
-  links-fit : Is (every (linkFits P) (P .links))
-  edges-fit : Is (every (edgeFits bs P) (P .edges))
+pub record Judged (bs : List ℕ) (P : Plan) : Type 0 where
+  pub sizes : Is (sizesFit P)
+  pub long : length bs ≡ lengthFor P
+  pub observers : Is (every (observerFits P) (P .propositions))
+  pub links-fit : Is (every (linkFits P) (P .links))
+  pub edges-fit : Is (every (edgeFits bs P) (P .edges))
 
-judged : (bs : List ℕ) (P : Plan) → refusalOf bs P ≡ 0 → Judged bs P
+pub judged : (bs : List ℕ) (P : Plan) → refusalOf bs P ≡ 0 → Judged bs P
 unfolding refusalOf
 judged bs P e =
     let a = past (ltb (length bs) 4) 0 _ e in
@@ -117,6 +129,12 @@ judged bs P e =
     let f = unless (every (linkFits P) (P .links)) 3 _ (d .1) in
     let g = unless (every (edgeFits bs P) (P .edges)) 4 0 (f .1) in
     record { sizes = b .0; long = eqb→eq _ _ (c .0); observers = d .0; links-fit = f .0; edges-fit = g .0 }
+
+-- the converse
+pub judged-none : (bs : List ℕ) (P : Plan) → Judged bs P → refusalOf bs P ≡ 0
+unfolding refusalOf lengthFor
+judged-none bs P j =
+    rw (le-ltb (length bs) 4 (omega arith), is-true (sizesFit P) (j .sizes), eq-eqb (length bs) (lengthFor P) (j .long), is-true (every (observerFits P) (P .propositions)) (j .observers), is-true (every (linkFits P) (P .links)) (j .links-fit), is-true (every (edgeFits bs P) (P .edges)) (j .edges-fit))
 
 module _ (bs : List ℕ) (P : Plan) (j : Judged bs P) where
   points-fit : (2 ≤ P .points) × (P .points ≤ 32)
@@ -201,7 +219,7 @@ module _ (bs : List ℕ) where
   unfolding planOf largestOf
   down-under i h = omega (arith, greatest-ge (downAt bs) _ i h)
 
-  largest-under : (b : ℕ) → ((i : ℕ) → i < planOf bs .links → planOf bs .most i ≤ b) → ((i : ℕ) → i < planOf bs .edges → planOf bs .down i ≤ b) → planOf bs .largest ≤ b
+  pub largest-under : (b : ℕ) → ((i : ℕ) → i < planOf bs .links → planOf bs .most i ≤ b) → ((i : ℕ) → i < planOf bs .edges → planOf bs .down i ≤ b) → planOf bs .largest ≤ b
   unfolding planOf largestOf
   largest-under b f g = omega (arith, greatest-le (mostAt bs) b _ f, greatest-le (downAt bs) b _ g)
 

@@ -4,5 +4,6 @@ pub mod LinkSet
 pub mod Counting
 pub mod Plan
 pub mod Layout
+pub mod Horizons
 pub mod Refusal
 pub mod Moments

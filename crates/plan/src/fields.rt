@@ -63,7 +63,7 @@ pub fn observer(plan: &[u8], j: usize) -> usize
 }
 
 // Where the two ends of a row stand.
-fn ends_at(plan: &[u8], row: usize) -> usize
+pub fn ends_at(plan: &[u8], row: usize) -> usize
     requires { ⌜ row < 512 ⌝ }
     ensures { λ r. ⌜ (r ≡ endsAt (before plan) row) × (r < 4096) ⌝ }
 {
@@ -71,7 +71,7 @@ fn ends_at(plan: &[u8], row: usize) -> usize
 }
 
 // Where the four bytes of a row stand.
-fn data_at(plan: &[u8], row: usize) -> usize
+pub fn data_at(plan: &[u8], row: usize) -> usize
     requires { ⌜ row < 512 ⌝ }
     ensures { λ r. ⌜ (r ≡ dataAt (before plan) row) × (r < 4096) ⌝ }
 {
@@ -79,7 +79,7 @@ fn data_at(plan: &[u8], row: usize) -> usize
 }
 
 // The row of an edge: the links come first.
-fn edge_row(plan: &[u8], i: usize) -> usize
+pub fn edge_row(plan: &[u8], i: usize) -> usize
     requires { ⌜ i < 256 ⌝ }
     ensures { λ r. ⌜ (r ≡ edgeRow (before plan) i) × (r < 512) ⌝ }
 {

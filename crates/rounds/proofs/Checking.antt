@@ -1,10 +1,10 @@
 -- Laws of the check: what it answers and leaves where it refuses, and what rounds from zeros make of the tables.
-use mathlib.Core.Path.{_≡_, refl, sym, ap, ap₂, _∙_}
+use mathlib.Core.Path.{_≡_, refl, sym, ap, ap₂, subst, _∙_}
 use mathlib.Core.Bool.{Bool, true, false, cond, not}
 use mathlib.Core.Logic.{_⊎_, inl, inr}
 use mathlib.Core.List.{List, _++_}
 use mathlib.Core.Option.{none}
-use Prim.Native.Nat.{ℕ, _≤_, _<_}
+use Prim.Native.Nat.{ℕ, _+_, _≤_, _<_}
 use native.Mathlib.Decide.{ℕ-discrete, decLe}
 use native.Mathlib.Omega.{arith}
 use lib.Dec.{ltb, eqb}
@@ -13,14 +13,16 @@ use borrow.Author.Tests.{lt-ltb, le-ltb, eq-eqb, ne-eqb}
 use Rattle.plan.specs.Moments.{Moments}
 use Rattle.plan.specs.Plan.{Plan, cells}
 use Rattle.plan.specs.Layout.{planOf, lengthFor}
+use Rattle.plan.specs.Horizons.{planWith}
 use Rattle.plan.specs.Refusal.{Accepted, every, sizesFit, observerFits, linkFits, edgeFits, refusalOf, refusal}
-use Rattle.plan.proofs.Ranges.{accepted-well-formed, accepted-bounded}
+use Rattle.plan.proofs.Ranges.{WellFormed, accepted-bounded}
+use Rattle.plan.proofs.Horizons.{own-horizon}
 use Rattle.rules_fill.specs.Parts.{laidOver}
 use Rattle.rounds.specs.Rounds.{tableFrom, zeros, roundsTo}
 use Rattle.rounds.specs.Outcomes.{Outcome, refused, runOutcome, runTable, tooShort, checkOutcome, checkTable}
 use Rattle.rounds.specs.Meaning.{Meaning}
 use Rattle.rounds.specs.AfterCheck.{AfterCheck}
-use Rattle.rounds.specs.Runs.{RoomFrom, Ran}
+use Rattle.rounds.specs.Runs.{RoomFrom, Ran, ZerosLent, RanFromZeros}
 use Rattle.rounds.proofs.Stopping.{none-runs}
 use Rattle.rounds.proofs.Small.{table-length, table-high}
 use Rattle.rounds.proofs.Meanings.{refused-means, run-means-bytes, decided}
@@ -106,54 +108,55 @@ module _ (bs F G : List ℕ) (limit : ℕ) where
       judged (no n) = inl (refusal bs, sym (refused-outcome bs F G limit (refusal bs) refl n), omega (arith, refusal-few bs))
 
 -- ---- rounds from zeros
-module _ (bs : List ℕ) (accepted : Accepted bs) where
-  small : (r : ℕ) → roundsTo (planOf bs) (zeros (planOf bs)) r ≡ none → (c : ℕ) → Dec (cells (planOf bs) ≤ c) → getD (tableFrom (planOf bs) (zeros (planOf bs)) r) c 0 ≤ 4000000000
-  small r e c (yes h) = rw (List·getD-eq-default (tableFrom (planOf bs) (zeros (planOf bs)) r) 0 {n = c} (omega (arith, table-length (planOf bs) (accepted-well-formed bs accepted) r))) (omega arith)
-  small r e c (no h) =
-      let d = accepted-bounded bs accepted in
-      omega (arith, d .horizon-in, d .largest-in, table-high (planOf bs) (accepted-well-formed bs accepted) r (none-runs (planOf bs) (zeros (planOf bs)) r e) c (omega arith))
+module _ (P : Plan) (wf : WellFormed P) (room : P .horizon + P .largest ≤ 4000000000) where
+  small : (r : ℕ) → roundsTo P (zeros P) r ≡ none → (c : ℕ) → Dec (cells P ≤ c) → getD (tableFrom P (zeros P) r) c 0 ≤ 4000000000
+  small r e c (yes h) = rw (List·getD-eq-default (tableFrom P (zeros P) r) 0 {n = c} (omega (arith, table-length P wf r))) (omega arith)
+  small r e c (no h) = omega (arith, table-high P wf r (none-runs P (zeros P) r e) c (omega arith))
 
-  zeros-room : RoomFrom (planOf bs) (zeros (planOf bs))
-  zeros-room = record { room = λ r e. record { cell = λ c. small r e c (decLe (cells (planOf bs)) c) } }
+  zeros-room : RoomFrom P (zeros P)
+  zeros-room = record { room = λ r e. record { cell = λ c. small r e c (decLe (cells P) c) } }
 
   -- the first table's cells were cleared; the code's number e is the cells
-  module _ (F F₀ : List ℕ) (e : ℕ) (ee : e ≡ cells (planOf bs)) (cleared : F ≡ laidOver e (replicate e 0) F₀) where
-    over : F ≡ laidOver (cells (planOf bs)) (zeros (planOf bs)) F₀
+  module _ (F F₀ : List ℕ) (e : ℕ) (ee : e ≡ cells P) (cleared : F ≡ laidOver e (replicate e 0) F₀) where
+    over : F ≡ laidOver (cells P) (zeros P) F₀
     over = cleared ∙ ap (λ (x : ℕ). laidOver x (replicate x 0) F₀) ee
 
-    front : take (cells (planOf bs)) F ≡ zeros (planOf bs)
-    front = ap (take (cells (planOf bs))) over ∙ front-is (cells (planOf bs)) (zeros (planOf bs)) F₀ (length-replicate (cells (planOf bs)) 0)
+    front : take (cells P) F ≡ zeros P
+    front = ap (take (cells P)) over ∙ front-is (cells P) (zeros P) F₀ (length-replicate (cells P) 0)
 
-    pub cleared-room : RoomFrom (planOf bs) (take (cells (planOf bs)) F)
+    pub cleared-room : RoomFrom P (take (cells P) F)
     cleared-room = rw front zeros-room
 
-    pub cleared-ran : (limit : ℕ) (o : Outcome) (first second : Moments) → first .entry ≡ F₀ → cells (planOf bs) ≤ length F₀ → cells (planOf bs) ≤ length (second .entry) → Ran (planOf bs) F (second .entry) limit o (first .exit) (second .exit) → AfterCheck bs limit first second o
-    cleared-ran limit o first second at f g r = record {
-      outcome-is = outcome;
-      first-is = table-first ∙ sym (leaves (first .entry));
-      second-is = table-second ∙ sym (leaves (second .entry));
-      means = means;
-      serves = decided bs accepted limit o (first .exit) (second .exit) means;
+    pub cleared-ran : (limit : ℕ) (o : Outcome) (first second : Moments) → first .entry ≡ F₀ → length F ≡ length F₀ → Ran P F (second .entry) limit o (first .exit) (second .exit) → RanFromZeros P limit first second o
+    cleared-ran limit o first second at long r = record {
+      outcome-is = r .outcome-is ∙ ap (λ (l : List ℕ). runOutcome P l limit) front;
+      first-is = r .first-is ∙ ap₂ (λ (l m : List ℕ). runTable P l limit ++ m) front (ap (drop (cells P)) over ∙ back-is (cells P) (zeros P) F₀ (length-replicate (cells P) 0) ∙ ap (drop (cells P)) (sym at));
+      second-is = r .second-is ∙ ap (λ (l : List ℕ). runTable P l limit ++ drop (cells P) (second .entry)) front;
+      first-length = r .first-length ∙ long ∙ ap length (sym at);
+      second-length = r .second-length;
     }
-      where
-        P : Plan
-        P = planOf bs
 
-        long : cells P ≤ length (first .entry)
-        long = rw at f
+-- the horizon and M of what rounds from zeros are lent leave room for a duration in 32 bits
+pub lent-room : (bs : List ℕ) (h : ℕ) (F G : List ℕ) → ZerosLent bs h F G → h + planOf bs .largest ≤ 4000000000
+lent-room bs h F G lent = omega (arith, lent .horizon-near, accepted-bounded bs (lent .accepted) .largest-in)
 
-        outcome : o ≡ checkOutcome bs (first .entry) (second .entry) limit
-        outcome = r .outcome-is ∙ ap (λ (l : List ℕ). runOutcome P l limit) front ∙ sym (check-runs bs (first .entry) (second .entry) limit accepted long g)
+-- what they are lent with the plan's own horizon
+pub own-lent : (bs : List ℕ) (h : ℕ) (F G : List ℕ) → Accepted bs → h ≡ planOf bs .horizon → cells (planOf bs) ≤ length F → cells (planOf bs) ≤ length G → ZerosLent bs h F G
+own-lent bs h F G accepted own f g = record { accepted = accepted; horizon-far = omega arith; horizon-near = omega (arith, accepted-bounded bs accepted .horizon-in); long-first = f; long-second = g }
 
-        leaves : (L : List ℕ) → checkTable bs (first .entry) (second .entry) limit L ≡ runTable P (zeros P) limit ++ drop (cells P) L
-        leaves = check-leaves bs (first .entry) (second .entry) limit accepted long g
+-- and then they are all that the check promises
+module _ (bs : List ℕ) (accepted : Accepted bs) (limit : ℕ) (o : Outcome) (first second : Moments) (f : cells (planOf bs) ≤ length (first .entry)) (g : cells (planOf bs) ≤ length (second .entry)) where
+  zeros-checked : RanFromZeros (planOf bs) limit first second o → AfterCheck bs limit first second o
+  zeros-checked r = record {
+    outcome-is = r .outcome-is ∙ sym (check-runs bs (first .entry) (second .entry) limit accepted f g);
+    first-is = r .first-is ∙ sym (check-leaves bs (first .entry) (second .entry) limit accepted f g (first .entry));
+    second-is = r .second-is ∙ sym (check-leaves bs (first .entry) (second .entry) limit accepted f g (second .entry));
+    means = means;
+    serves = decided bs accepted limit o (first .exit) (second .exit) means;
+  }
+    where
+      means : Meaning (planOf bs) limit o (first .exit) (second .exit)
+      means = rw (r .outcome-is, r .first-is, r .second-is) (run-means-bytes bs accepted limit (drop (cells (planOf bs)) (first .entry)) (drop (cells (planOf bs)) (second .entry)))
 
-        table-first : first .exit ≡ runTable P (zeros P) limit ++ drop (cells P) (first .entry)
-        table-first = r .first-is ∙ ap₂ (λ (l m : List ℕ). runTable P l limit ++ m) front (ap (drop (cells P)) over ∙ back-is (cells P) (zeros P) F₀ (length-replicate (cells P) 0) ∙ ap (drop (cells P)) (sym at))
-
-        table-second : second .exit ≡ runTable P (zeros P) limit ++ drop (cells P) (second .entry)
-        table-second = r .second-is ∙ ap (λ (l : List ℕ). runTable P l limit ++ drop (cells P) (second .entry)) front
-
-        means : Meaning P limit o (first .exit) (second .exit)
-        means = rw (r .outcome-is ∙ ap (λ (l : List ℕ). runOutcome P l limit) front, table-first, table-second)
-            (run-means-bytes bs accepted limit (drop (cells P) (first .entry)) (drop (cells P) (second .entry)))
+  pub checked : (h : ℕ) → h ≡ planOf bs .horizon → RanFromZeros (planWith bs h) limit first second o → AfterCheck bs limit first second o
+  checked h own r = zeros-checked (subst (λ (P : Plan). RanFromZeros P limit first second o) (own-horizon bs h own) r)

@@ -4,6 +4,7 @@ mod Sums
 pub mod Verdict
 pub mod Meanings
 pub mod Small
+pub mod SameRuns
 pub mod RoundsMade
 pub mod Checking
 mod Bench

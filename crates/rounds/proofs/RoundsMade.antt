@@ -12,14 +12,16 @@ use lib.Seq.{length-take-le, take-at, drop-at, take-take, take-append-le, take-a
 use Rattle.plan.specs.LinkSet.{contains}
 use Rattle.plan.specs.Plan.{Plan, width, cells}
 use Rattle.plan.specs.Layout.{planOf}
+use Rattle.plan.specs.Horizons.{planWith}
 use Rattle.plan.specs.Refusal.{Accepted}
-use Rattle.plan.proofs.Ranges.{WellFormed, accepted-well-formed, accepted-bounded}
+use Rattle.plan.proofs.Ranges.{WellFormed, accepted-bounded}
+use Rattle.plan.proofs.Horizons.{with-well-formed}
 use Rattle.rules.specs.Tables.{next}
 use Rattle.rules_fill.specs.Parts.{nextCells, part, AtMost, laidOver}
 use Rattle.rules.proofs.FirstAlarm.{width-le}
 use Rattle.rounds_sources.specs.PointSets.{allPoints}
 use Rattle.rounds_sources.specs.Sources.{sourceSets, Unaffected}
-use Rattle.rounds_sources.proofs.SourceLaws.{sets-length}
+use Rattle.rounds_sources.proofs.SourceLaws.{sets-length, sources-with}
 use Rattle.rounds_sources.proofs.Unchanged.{unaffected-all, unaffected-next}
 use Rattle.rounds_tables.specs.Cells.{same, anyAbove}
 use Rattle.rounds_tables.specs.Changes.{changedPoints}
@@ -64,7 +66,7 @@ laid-self n L = sym (take-append-drop n L)
 
 -- ---- one round
 pub ready-on : (bs M : List ℕ) (h : ℕ) (F G D E : List ℕ) → Ready bs M h F G → length D ≡ length F → length E ≡ length G → Ready bs M h D E
-ready-on bs M h F G D E r d e = record { accepted = r .accepted; marked = r .marked; horizon-is = r .horizon-is; long-first = rw d (r .long-first); long-second = rw e (r .long-second) }
+ready-on bs M h F G D E r d e = record { accepted = r .accepted; marked = r .marked; horizon-far = r .horizon-far; long-first = rw d (r .long-first); long-second = rw e (r .long-second) }
 
 -- what the tests ask for of tables of m and k entries, where k is as many as k₀
 module _ (P : Plan) (wf : WellFormed P) (w k k₀ : ℕ) (ew : w ≡ width P) (e : k ≡ k₀) (long : cells P ≤ k₀) where
@@ -221,15 +223,15 @@ module _ (P : Plan) (wf : WellFormed P) (F₀ : List ℕ) (long : cells P ≤ le
           ran limit o (suc r) F′ G′ (rw a (ends-at P T limit r h (held .runs) (sym stops-then ∙ e))) first-then second-then (t .first-length ∙ held .first-length) (t .second-length ∙ held .second-length)
 
 -- what the next round is lent
-pub held-lent : (bs M : List ℕ) (h : ℕ) (F₀ G₀ : List ℕ) → Ready bs M h F₀ G₀ → RoomFrom (planOf bs) (take (cells (planOf bs)) F₀) → (r : ℕ) (F G : List ℕ) → Held (planOf bs) F₀ G₀ r F G → (sets B : List ℕ)
-    → sets ≡ laidOver (planOf bs .points) (sourceSets (planOf bs)) B → planOf bs .points ≤ length sets → (changed : ℕ) → Unaffected (planOf bs) (tableFrom (planOf bs) (take (cells (planOf bs)) F₀) r) changed → RoundLent bs M h F G sets changed
+pub held-lent : (bs M : List ℕ) (h : ℕ) (F₀ G₀ : List ℕ) → Ready bs M h F₀ G₀ → RoomFrom (planWith bs h) (take (cells (planOf bs)) F₀) → (r : ℕ) (F G : List ℕ) → Held (planWith bs h) F₀ G₀ r F G → (sets B : List ℕ)
+    → sets ≡ laidOver (planOf bs .points) (sourceSets (planOf bs)) B → planOf bs .points ≤ length sets → (changed : ℕ) → Unaffected (planWith bs h) (tableFrom (planWith bs h) (take (cells (planOf bs)) F₀) r) changed → RoundLent bs M h F G sets changed
 held-lent bs M h F₀ G₀ ready room r F G held sets B found long changed keeps =
-    let P = planOf bs in
-    let wf = accepted-well-formed bs (ready .accepted) in record {
+    let P = planWith bs h in
+    let wf = with-well-formed bs (ready .accepted) h (ready .horizon-far) in record {
       ready = ready-on bs M h F₀ G₀ F G ready (held .first-length) (held .second-length);
       bound = held-room P wf F₀ (ready .long-first) G₀ r F G held room;
       same-cells = held-same P wf F₀ (ready .long-first) G₀ r F G held;
       sets-long = long;
-      sets-are = sets-in P sets B found;
+      sets-are = sets-in (planOf bs) sets B found ∙ sym (sources-with (planOf bs) h);
       unaffected = held-unaffected P wf F₀ (ready .long-first) G₀ r F G held changed keeps;
     }

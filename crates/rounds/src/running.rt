@@ -2,6 +2,7 @@
 use crate::Answer;
 use plan::cells;
 use plan::horizon as horizon_of;
+use plan::largest;
 use plan::plain_marks;
 use plan::points;
 use plan::width as point_width;
@@ -21,11 +22,13 @@ ghost use lib.ListN.{length, take};
 ghost use Rattle.plan.specs.Moments.{before, after, moments};
 ghost use Rattle.plan.specs.Plan.{cells as cellsOf};
 ghost use Rattle.plan.specs.Layout.{planOf};
+ghost use Rattle.plan.specs.Horizons.{planWith};
 ghost use Rattle.plan.specs.Refusal.{Accepted};
 ghost use Rattle.rounds_tables.specs.Cells.{same, anyAbove};
 ghost use Rattle.rounds_tables.specs.Ready.{Ready, RoundLent};
-ghost use Rattle.rounds.specs.Runs.{RoomFrom, RoundMade, Ran};
+ghost use Rattle.rounds.specs.Runs.{RoomFrom, RoundMade, Ran, ZerosLent, RanFromZeros};
 ghost use Rattle.rounds.specs.Outcomes.{kept, broken, pick, outcomeOf};
+ghost use Rattle.rounds.specs.Meaning.{enoughRounds};
 ghost use Rattle.rounds.specs.AfterCheck.{AfterCheck};
 
 // Whether the round from the first table to the second stops the rounds.
@@ -56,7 +59,7 @@ fn make_round(
     changed: usize,
 ) -> Round
     requires { ⌜ RoundLent (now plan) (now marks) horizon (now first) (now second) (now sources) changed ⌝ }
-    ensures { λ r. ⌜ RoundMade (planOf (before plan)) (before first) (before second) (r .stops) (r .changed) (after first) (after second) ⌝ }
+    ensures { λ r. ⌜ RoundMade (planWith (before plan) horizon) (before first) (before second) (r .stops) (r .changed) (after first) (after second) ⌝ }
 {
     let n = points(plan);
     let width = point_width(plan);
@@ -89,9 +92,9 @@ fn rounds_to(
     limit: u64,
 ) -> Answer
     requires { ⌜ Ready (now plan) (now marks) horizon (now first) (now second) ⌝ }
-    requires { ⌜ RoomFrom (planOf (now plan)) (take (cellsOf (planOf (now plan))) (now first)) ⌝ }
+    requires { ⌜ RoomFrom (planWith (now plan) horizon) (take (cellsOf (planOf (now plan))) (now first)) ⌝ }
     requires { ⌜ take (cellsOf (planOf (now plan))) (now second) ≡ take (cellsOf (planOf (now plan))) (now first) ⌝ }
-    ensures { λ r. ⌜ Ran (planOf (before plan)) (before first) (before second) limit (outcomeOf r) (after first) (after second) ⌝ }
+    ensures { λ r. ⌜ Ran (planWith (before plan) horizon) (before first) (before second) limit (outcomeOf r) (after first) (after second) ⌝ }
 {
     let width = point_width(plan);
     let mut sources = [0usize; 32];
@@ -119,24 +122,37 @@ pub fn run(
     limit: u64,
 ) -> Answer
     requires { ⌜ Ready (now plan) (now marks) horizon (now first) (now second) ⌝ }
-    requires { ⌜ RoomFrom (planOf (now plan)) (take (cellsOf (planOf (now plan))) (now first)) ⌝ }
-    ensures { λ r. ⌜ Ran (planOf (before plan)) (before first) (before second) limit (outcomeOf r) (after first) (after second) ⌝ }
+    requires { ⌜ RoomFrom (planWith (now plan) horizon) (take (cellsOf (planOf (now plan))) (now first)) ⌝ }
+    ensures { λ r. ⌜ Ran (planWith (before plan) horizon) (before first) (before second) limit (outcomeOf r) (after first) (after second) ⌝ }
 {
     let end = cells(plan);
     copy_cells(first, second, end);
     rounds_to(plan, marks, horizon, first, second, limit)
 }
 
-// The check of an accepted plan with tables that are long enough: rounds from zeros.
-fn checked(plan: &[u8], first: &mut [u32], second: &mut [u32], limit: u64) -> Answer
-    requires { ⌜ Accepted (now plan) × (cellsOf (planOf (now plan)) ≤ length (now first)) × (cellsOf (planOf (now plan)) ≤ length (now second)) ⌝ }
-    ensures { λ r. ⌜ AfterCheck (before plan) limit (moments first) (moments second) (outcomeOf r) ⌝ }
+// Rounds from zeros, with a horizon that is no shorter than the plan's own.
+pub fn run_from_zeros(
+    plan: &[u8],
+    horizon: u64,
+    first: &mut [u32],
+    second: &mut [u32],
+    limit: u64,
+) -> Answer
+    requires { ⌜ ZerosLent (now plan) horizon (now first) (now second) ⌝ }
+    ensures { λ r. ⌜ RanFromZeros (planWith (before plan) horizon) limit (moments first) (moments second) (outcomeOf r) ⌝ }
 {
     let end = cells(plan);
     clear_cells(first, end);
     let marks = plain_marks();
-    let horizon = horizon_of(plan);
     run(plan, &marks, horizon, first, second, limit)
+}
+
+// The number of rounds that is enough for the plan.
+pub fn enough_rounds(plan: &[u8]) -> u64
+    requires { ⌜ Accepted (now plan) ⌝ }
+    ensures { λ r. ⌜ r ≡ enoughRounds (planOf (before plan)) ⌝ }
+{
+    cells(plan) as u64 * (horizon_of(plan) + largest(plan) + 1) + 1
 }
 
 // Kept or broken with R, spent with the limit, or refused with the refusal's number; refused, the tables are untouched.
@@ -154,5 +170,5 @@ pub fn check(plan: &[u8], first: &mut [u32], second: &mut [u32], limit: u64) -> 
     if second.len() < end {
         return Answer::Refused(6);
     }
-    checked(plan, first, second, limit)
+    run_from_zeros(plan, horizon_of(plan), first, second, limit)
 }

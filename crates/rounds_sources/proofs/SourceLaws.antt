@@ -13,6 +13,7 @@ use lib.Seq.{getD-take}
 use Rattle.plan.specs.LinkSet.{contains}
 use Rattle.plan.specs.Plan.{Plan}
 use Rattle.plan.specs.Layout.{planOf}
+use Rattle.plan.specs.Horizons.{withHorizon}
 use Rattle.plan.specs.Refusal.{Accepted}
 use Rattle.plan.proofs.Ranges.{WellFormed, accepted-well-formed, accepted-bounded}
 use Rattle.rules_fill.specs.Parts.{laidOver}
@@ -134,6 +135,11 @@ module _ (P : Plan) (x : ℕ) where
   other-sources ne e l p edges links propositions = rw (ne-eqb x 0 ne) (ap₂ bitOr (ap₂ bitOr edges links) propositions)
 
 -- the sets of the points one by one
+-- no source depends on the horizon
+pub sources-with : (P : Plan) (h : ℕ) → sourceSets (withHorizon P h) ≡ sourceSets P
+unfolding sourceSets sourcesOf edgeSources linkSources propositionSources
+sources-with P h = refl
+
 pub sets-length : (P : Plan) → length (sourceSets P) ≡ P .points
 unfolding sourceSets
 sets-length P = values-length (sourcesOf P) (P .points) 0

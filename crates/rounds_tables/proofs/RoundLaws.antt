@@ -11,7 +11,9 @@ use lib.ListN.{length, getD, take, drop, replicate, set, length-take, length-dro
 use lib.Seq.{take-suc, take-take, length-take-le, getD-take}
 use Rattle.plan.specs.Plan.{Plan, width, cells}
 use Rattle.plan.specs.Layout.{planOf}
-use Rattle.plan.proofs.Ranges.{WellFormed, accepted-well-formed}
+use Rattle.plan.specs.Horizons.{planWith}
+use Rattle.plan.proofs.Ranges.{WellFormed}
+use Rattle.plan.proofs.Horizons.{with-well-formed}
 use Rattle.rules.specs.Tables.{next}
 use Rattle.rules_fill.specs.Parts.{nextCells, AtMost, laidOver, nextPart}
 use Rattle.rules.proofs.Next.{next-is}
@@ -73,7 +75,7 @@ pub next-length : (P : Plan) → WellFormed P → (F : List ℕ) → cells P ≤
 next-length P wf F h = let e = length-take-le (cells P) F h in next-is P wf (take (cells P) F) e .as-long ∙ e
 
 -- where a loop over the points stands at point x: the code's numbers w and e are the cells of a point and the cells; the second table was B, and is C
-pub record AtPoint (bs F B : List ℕ) (w e x : ℕ) (C : List ℕ) : Type 0 where
+pub record AtPoint (bs : List ℕ) (h : ℕ) (F B : List ℕ) (w e x : ℕ) (C : List ℕ) : Type 0 where
   pub width-is : w ≡ width (planOf bs)
   pub cells-is : e ≡ cells (planOf bs)
   pub x-in : x < planOf bs .points
@@ -81,19 +83,19 @@ pub record AtPoint (bs F B : List ℕ) (w e x : ℕ) (C : List ℕ) : Type 0 whe
   -- the cells of the first table are lent, and the part of the second that starts at the point's first cell
   pub cut : e ≡ length (take e F)
   pub lent : Lent bs (take e F) (take (length C - x * w) (drop (x * w) C))
-  pub laid : C ≡ laidOver (x * w) (nextCells (planOf bs) F) B
+  pub laid : C ≡ laidOver (x * w) (nextCells (planWith bs h) F) B
   -- a part with the point's next cells lays them over
-  pub more : (Y : List ℕ) → Y ≡ nextPart (planOf bs) x (take e F) (take (length C - x * w) (drop (x * w) C)) → putMid (x * w) (length C - x * w) C Y ≡ laidOver ((x + 1) * w) (nextCells (planOf bs) F) B
+  pub more : (Y : List ℕ) → Y ≡ nextPart (planWith bs h) x (take e F) (take (length C - x * w) (drop (x * w) C)) → putMid (x * w) (length C - x * w) C Y ≡ laidOver ((x + 1) * w) (nextCells (planWith bs h) F) B
   pub as-long : (Y : List ℕ) → length Y ≡ length (take (length C - x * w) (drop (x * w) C)) → length (putMid (x * w) (length C - x * w) C Y) ≡ length B
 
 module _ (bs M : List ℕ) (h : ℕ) (F B : List ℕ) (ready : Ready bs M h F B) where
   pub at-point : AtMost 4000000000 (take (cells (planOf bs)) F) → (n w e x : ℕ) (C : List ℕ) → n ≡ planOf bs .points → w ≡ width (planOf bs) → e ≡ cells (planOf bs) → x < n
-      → C ≡ laidOver (x * w) (nextCells (planOf bs) F) B → length C ≡ length B → AtPoint bs F B w e x C
+      → C ≡ laidOver (x * w) (nextCells (planWith bs h) F) B → length C ≡ length B → AtPoint bs h F B w e x C
   unfolding laidOver
   at-point bound n w e x C en ew ee x-in laid long = record { width-is = ew; cells-is = ee; x-in = x-inside; row = within; cut = cut-is; lent = lent-is; laid = laid; more = more-is; as-long = λ Y h. same-len-mid (x * w) (length C - x * w) C Y h ∙ long }
     where
       P : Plan
-      P = planOf bs
+      P = planWith bs h
 
       N : List ℕ
       N = nextCells P F
@@ -115,7 +117,7 @@ module _ (bs M : List ℕ) (h : ℕ) (F B : List ℕ) (ready : Ready bs M h F B)
 
       more-is : (Y : List ℕ) → Y ≡ nextPart P x (take e F) (take (length C - x * w) (drop (x * w) C)) → putMid (x * w) (length C - x * w) C Y ≡ laidOver ((x + 1) * w) N B
       more-is Y ey =
-          let sized : length N ≡ cells P = next-length P (accepted-well-formed bs (ready .accepted)) F (ready .long-first) in
+          let sized : length N ≡ cells P = next-length P (with-well-formed bs (ready .accepted) h (ready .horizon-far)) F (ready .long-first) in
           let same-cut : take (cells P) (take e F) ≡ take (cells P) F = take-take (cells P) e F (omega arith) in
           laid-part-back (x * w) w N B C Y (omega (arith, in-cells)) (omega (arith, in-cells, ready .long-second)) laid (ey ∙ ap₂ (λ (v : ℕ) (A : List ℕ). take v (drop (x * v) (next P A)) ++ drop v (take (length C - x * w) (drop (x * w) C))) (sym ew) same-cut) ∙ ap (λ (m : ℕ). laidOver m N B) (row-end x w)
 
@@ -125,13 +127,13 @@ all-laid P N B C x n w e en ew laid = laid ∙ ap (λ (m : ℕ). laidOver m N B)
 
 -- a round that passes over points: the lent part has the point's cells, as the second table had the first's
 module _ (bs M : List ℕ) (h : ℕ) (F B sets : List ℕ) (changed : ℕ) (lent : RoundLent bs M h F B sets changed) where
-  pub point-lent : (w e x : ℕ) (C : List ℕ) → AtPoint bs F B w e x C → PointLent bs (take e F) (take (length C - x * w) (drop (x * w) C)) x (getD sets x 0) changed
+  pub point-lent : (w e x : ℕ) (C : List ℕ) → AtPoint bs h F B w e x C → PointLent bs h (take e F) (take (length C - x * w) (drop (x * w) C)) x (getD sets x 0) changed
   point-lent w e x C p =
-      let P = planOf bs in
+      let P = planWith bs h in
       let r = lent .ready in
       let ew = p .width-is in
       let N = nextCells P F in
-      let sized : length N ≡ cells P = next-length P (accepted-well-formed bs (r .accepted)) F (r .long-first) in
+      let sized : length N ≡ cells P = next-length P (with-well-formed bs (r .accepted) h (r .horizon-far)) F (r .long-first) in
       let row : x * w + w ≤ cells P = row-in P x (cells P) w x (p .x-in) (le-refl (cells P)) ew refl in
       let same-cut : take (cells P) (take e F) ≡ take (cells P) F = take-take (cells P) e F (omega (arith, p .cells-is)) in
       let whole : take (width P) (take (length C - x * w) (drop (x * w) C)) ≡ take w (drop (x * w) C) = ap₂ take (sym ew) (lent-part (x * w) C) in record {

@@ -8,6 +8,7 @@ ghost use lib.ListN.{take};
 ghost use Rattle.plan.specs.Moments.{before, after, SameLength};
 ghost use Rattle.plan.specs.Plan.{cells as cellsOf};
 ghost use Rattle.plan.specs.Layout.{planOf};
+ghost use Rattle.plan.specs.Horizons.{planWith};
 ghost use Rattle.rules_fill.specs.Parts.{nextCells, AtMost, laidOver, nextPart};
 ghost use Rattle.rules_fill.specs.Lent.{FillLent};
 ghost use Rattle.rounds_tables.specs.Ready.{Ready, RoundLent, PointLent};
@@ -16,7 +17,7 @@ ghost use Rattle.rounds_tables.specs.Ready.{Ready, RoundLent, PointLent}
 pub fn round(plan: &[u8], marks: &[u8; 256], horizon: u64, first: &[u32], second: &mut [u32])
     requires { ⌜ Ready (now plan) (now marks) horizon (now first) (now second) ⌝ }
     requires { ⌜ AtMost 4000000000 (take (cellsOf (planOf (now plan))) (now first)) ⌝ }
-    ensures { λ _. ⌜ after second ≡ laidOver (cellsOf (planOf (before plan))) (nextCells (planOf (before plan)) (before first)) (before second) ⌝ }
+    ensures { λ _. ⌜ after second ≡ laidOver (cellsOf (planOf (before plan))) (nextCells (planWith (before plan) horizon) (before first)) (before second) ⌝ }
     ensures { λ _. ⌜ SameLength second ⌝ }
 {
     let n = points(plan);
@@ -40,8 +41,8 @@ fn refill_point(
     changed: usize,
 )
     requires { ⌜ FillLent (now plan) (now marks) horizon (now first) (now part) x ⌝ }
-    requires { ⌜ PointLent (now plan) (now first) (now part) x sources changed ⌝ }
-    ensures { λ _. ⌜ after part ≡ nextPart (planOf (before plan)) x (before first) (before part) ⌝ }
+    requires { ⌜ PointLent (now plan) horizon (now first) (now part) x sources changed ⌝ }
+    ensures { λ _. ⌜ after part ≡ nextPart (planWith (before plan) horizon) x (before first) (before part) ⌝ }
     ensures { λ _. ⌜ SameLength part ⌝ }
 {
     if sources & changed == 0 {
@@ -61,7 +62,7 @@ pub fn next_round(
     changed: usize,
 )
     requires { ⌜ RoundLent (now plan) (now marks) horizon (now first) (now second) (now sources) changed ⌝ }
-    ensures { λ _. ⌜ after second ≡ laidOver (cellsOf (planOf (before plan))) (nextCells (planOf (before plan)) (before first)) (before second) ⌝ }
+    ensures { λ _. ⌜ after second ≡ laidOver (cellsOf (planOf (before plan))) (nextCells (planWith (before plan) horizon) (before first)) (before second) ⌝ }
     ensures { λ _. ⌜ SameLength second ⌝ }
 {
     let n = points(plan);

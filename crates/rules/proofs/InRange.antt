@@ -11,6 +11,7 @@ use lib.Pow.{pow-pos}
 use Rattle.plan.specs.Label.{digit}
 use Rattle.plan.specs.LinkSet.{contains, union}
 use Rattle.plan.specs.Plan.{Plan}
+use Rattle.plan.specs.Horizons.{withHorizon}
 use Rattle.plan.proofs.Digits.{insert-in, remove-in}
 use Rattle.plan.proofs.LabelLaws.{four-pos, clear-le, digit-none, join-lt}
 use Rattle.plan.proofs.Ranges.{WellFormed}
@@ -37,11 +38,15 @@ pub record ConstraintIn (P : Plan) (c : Constraint) : Type 0 where
   pub down-le : c .down ≤ P .largest
 
 module _ (P : Plan) (wf : WellFormed P) where
+  -- whatever the horizon is
+  pub edge-within : (z : ℕ) (e : Edge) → InPlan P (Propagation e) → ConstraintIn P (constraintOf (withHorizon P z) e)
+  edge-within z (PlanEdge i) h = record { from-in = wf .from-in i h; to-in = wf .to-in i h; label-in = wf .label-in i h; down-le = wf .down-le i h }
+  edge-within z (HorizonEdge x) h = record { from-in = omega (arith, wf .two); to-in = h .1; label-in = four-pos _; down-le = omega arith }
+  edge-within z (UpperBound i) h = record { from-in = wf .activation-in i h; to-in = wf .finish-in i h .1; label-in = four-pos _; down-le = omega arith }
+  edge-within z (LowerBound i) h = record { from-in = wf .finish-in i h .1; to-in = wf .activation-in i h; label-in = four-pos _; down-le = omega (arith, wf .durations i h, wf .most-le i h) }
+
   pub edge-range : (e : Edge) → InPlan P (Propagation e) → ConstraintIn P (constraintOf P e)
-  edge-range (PlanEdge i) h = record { from-in = wf .from-in i h; to-in = wf .to-in i h; label-in = wf .label-in i h; down-le = wf .down-le i h }
-  edge-range (HorizonEdge x) h = record { from-in = omega (arith, wf .two); to-in = h .1; label-in = four-pos _; down-le = omega arith }
-  edge-range (UpperBound i) h = record { from-in = wf .activation-in i h; to-in = wf .finish-in i h .1; label-in = four-pos _; down-le = omega arith }
-  edge-range (LowerBound i) h = record { from-in = wf .finish-in i h .1; to-in = wf .activation-in i h; label-in = four-pos _; down-le = omega (arith, wf .durations i h, wf .most-le i h) }
+  edge-range = edge-within (P .horizon)
 
   pub result-range : (r : Rule) → InPlan P r → (l m : Line) → InRange P l → InRange P m → InRange P (result P r l m)
   unfolding union

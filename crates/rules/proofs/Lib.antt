@@ -1,5 +1,6 @@
 pub mod Raising
 pub mod Deriving
+pub mod Constraints
 pub mod InRange
 pub mod Monotone
 pub mod Cells
@@ -7,3 +8,4 @@ pub mod Next
 pub mod FirstAlarm
 pub mod Sound
 pub mod Growth
+pub mod Fewer

@@ -14,15 +14,16 @@ ghost use mathlib.Core.Path.{_≡_};
 ghost use Prim.Native.Nat.{_<_};
 ghost use Rattle.plan.specs.Moments.{before};
 ghost use Rattle.plan.specs.Layout.{planOf};
+ghost use Rattle.plan.specs.Horizons.{planWith};
 ghost use Rattle.plan.specs.Refusal.{Accepted};
 ghost use Rattle.rules.specs.Rules.{constraintOf};
 ghost use Rattle.rules.specs.Derivations.{InPlan};
 ghost use Rattle.rules.specs.declared.Rule.the-variants as rule;
 
-// The horizon is handed in: to find it anew would read every row.
+// The horizon is handed in: to find it anew would read every row, and a plan with rows left out has the whole plan's.
 pub fn constraint_of(plan: &[u8], horizon: u64, e: Edge) -> Constraint
-    requires { ⌜ Accepted (now plan) × InPlan (planOf (now plan)) (rule.Propagation e) × (horizon ≡ planOf (now plan) .horizon) ⌝ }
-    ensures { λ r. ⌜ r ≡ constraintOf (planOf (before plan)) e ⌝ }
+    requires { ⌜ Accepted (now plan) × InPlan (planOf (now plan)) (rule.Propagation e) ⌝ }
+    ensures { λ r. ⌜ r ≡ constraintOf (planWith (before plan) horizon) e ⌝ }
     ensures { λ r. ⌜ (r .label < 256) × (r .down < 65536) ⌝ }
 {
     match e {

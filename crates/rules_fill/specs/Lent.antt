@@ -1,5 +1,4 @@
 -- For inner contracts only: what filling one point's part is lent. Nothing here is to be believed.
-use mathlib.Core.Path.{_≡_}
 use mathlib.Core.List.{List}
 use Prim.Native.Nat.{ℕ, _≤_, _<_}
 use lib.ListN.{length}
@@ -16,9 +15,9 @@ pub record Lent (plan first part : List ℕ) : Type 0 where
   pub long-first : cells (planOf plan) ≤ length first
   pub long-part : width (planOf plan) ≤ length part
 
--- and the marks, the plan's horizon, and a point x of the plan
+-- and the marks, a horizon no shorter than the plan's own, and a point x of the plan
 pub record FillLent (plan marks : List ℕ) (horizon : ℕ) (first part : List ℕ) (x : ℕ) : Type 0 where
   pub lent : Lent plan first part
   pub marked : Marks marks
-  pub horizon-is : horizon ≡ planOf plan .horizon
+  pub horizon-far : planOf plan .horizon ≤ horizon
   pub point-in : x < planOf plan .points

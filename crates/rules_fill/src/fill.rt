@@ -25,6 +25,7 @@ ghost use Prim.Native.Nat.{_<_};
 ghost use lib.Dec.{eqb};
 ghost use Rattle.plan.specs.Moments.{before, after, SameLength};
 ghost use Rattle.plan.specs.Layout.{planOf};
+ghost use Rattle.plan.specs.Horizons.{planWith};
 ghost use Rattle.rules.specs.Derivations.{InPlan};
 ghost use Rattle.rules.specs.declared.Rule.the-variants as rule;
 ghost use Rattle.rules_fill.specs.Steps as steps;
@@ -44,9 +45,9 @@ fn edge_in(
     mask: usize,
     e: Edge,
 )
-    requires { ⌜ RowsLent (now plan) (now marks) (now first) (now part) width mask × (horizon ≡ planOf (now plan) .horizon) ⌝ }
+    requires { ⌜ RowsLent (now plan) (now marks) (now first) (now part) width mask ⌝ }
     requires { ⌜ InPlan (planOf (now plan)) (rule.Propagation e) ⌝ }
-    ensures { λ _. ⌜ after part ≡ shapes.edgeIn (planOf (before plan)) (before first) e (before part) ⌝ }
+    ensures { λ _. ⌜ after part ≡ shapes.edgeIn (planWith (before plan) horizon) (before first) e (before part) ⌝ }
     ensures { λ _. ⌜ SameLength part ⌝ }
 {
     let by = edge_row(plan, horizon, e);
@@ -65,9 +66,9 @@ fn plan_edge_in(
     x: usize,
     i: usize,
 )
-    requires { ⌜ RowsLent (now plan) (now marks) (now first) (now part) width mask × (horizon ≡ planOf (now plan) .horizon) ⌝ }
+    requires { ⌜ RowsLent (now plan) (now marks) (now first) (now part) width mask ⌝ }
     requires { ⌜ i < planOf (now plan) .edges ⌝ }
-    ensures { λ _. ⌜ after part ≡ shapes.fillEdge (planOf (before plan)) (before first) x i (before part) ⌝ }
+    ensures { λ _. ⌜ after part ≡ shapes.fillEdge (planWith (before plan) horizon) (before first) x i (before part) ⌝ }
     ensures { λ _. ⌜ SameLength part ⌝ }
 {
     if edge_from(plan, i) != x {
@@ -87,8 +88,8 @@ fn fill_edges(
     mask: usize,
     x: usize,
 )
-    requires { ⌜ RowsLent (now plan) (now marks) (now first) (now part) width mask × (horizon ≡ planOf (now plan) .horizon) ⌝ }
-    ensures { λ _. ⌜ after part ≡ shapes.fillEdges (planOf (before plan)) (before first) x (before part) ⌝ }
+    requires { ⌜ RowsLent (now plan) (now marks) (now first) (now part) width mask ⌝ }
+    ensures { λ _. ⌜ after part ≡ shapes.fillEdges (planWith (before plan) horizon) (before first) x (before part) ⌝ }
     ensures { λ _. ⌜ SameLength part ⌝ }
 {
     let n = edges(plan);
@@ -107,8 +108,8 @@ fn fill_horizon(
     width: usize,
     mask: usize,
 )
-    requires { ⌜ RowsLent (now plan) (now marks) (now first) (now part) width mask × (horizon ≡ planOf (now plan) .horizon) ⌝ }
-    ensures { λ _. ⌜ after part ≡ shapes.fillHorizon (planOf (before plan)) (before first) (before part) ⌝ }
+    requires { ⌜ RowsLent (now plan) (now marks) (now first) (now part) width mask ⌝ }
+    ensures { λ _. ⌜ after part ≡ shapes.fillHorizon (planWith (before plan) horizon) (before first) (before part) ⌝ }
     ensures { λ _. ⌜ SameLength part ⌝ }
 {
     let n = points(plan);
@@ -128,8 +129,8 @@ fn horizon_at(
     mask: usize,
     x: usize,
 )
-    requires { ⌜ RowsLent (now plan) (now marks) (now first) (now part) width mask × (horizon ≡ planOf (now plan) .horizon) ⌝ }
-    ensures { λ _. ⌜ after part ≡ steps.when (eqb x 0) (shapes.fillHorizon (planOf (before plan)) (before first)) (before part) ⌝ }
+    requires { ⌜ RowsLent (now plan) (now marks) (now first) (now part) width mask ⌝ }
+    ensures { λ _. ⌜ after part ≡ steps.when (eqb x 0) (shapes.fillHorizon (planWith (before plan) horizon) (before first)) (before part) ⌝ }
     ensures { λ _. ⌜ SameLength part ⌝ }
 {
     if x != 0 {
@@ -186,9 +187,9 @@ fn activation_in(
     x: usize,
     i: usize,
 )
-    requires { ⌜ RowsLent (now plan) (now marks) (now first) (now part) width mask × (horizon ≡ planOf (now plan) .horizon) ⌝ }
+    requires { ⌜ RowsLent (now plan) (now marks) (now first) (now part) width mask ⌝ }
     requires { ⌜ i < planOf (now plan) .links ⌝ }
-    ensures { λ _. ⌜ after part ≡ shapes.fillActivation (planOf (before plan)) (before first) x i (before part) ⌝ }
+    ensures { λ _. ⌜ after part ≡ shapes.fillActivation (planWith (before plan) horizon) (before first) x i (before part) ⌝ }
     ensures { λ _. ⌜ SameLength part ⌝ }
 {
     if link_activation(plan, i) != x {
@@ -211,9 +212,9 @@ fn finish_in(
     x: usize,
     i: usize,
 )
-    requires { ⌜ RowsLent (now plan) (now marks) (now first) (now part) width mask × (horizon ≡ planOf (now plan) .horizon) ⌝ }
+    requires { ⌜ RowsLent (now plan) (now marks) (now first) (now part) width mask ⌝ }
     requires { ⌜ i < planOf (now plan) .links ⌝ }
-    ensures { λ _. ⌜ after part ≡ shapes.fillFinish (planOf (before plan)) (before first) x i (before part) ⌝ }
+    ensures { λ _. ⌜ after part ≡ shapes.fillFinish (planWith (before plan) horizon) (before first) x i (before part) ⌝ }
     ensures { λ _. ⌜ SameLength part ⌝ }
 {
     if link_finish(plan, i) != x {
@@ -246,9 +247,9 @@ fn fill_link(
     x: usize,
     i: usize,
 )
-    requires { ⌜ RowsLent (now plan) (now marks) (now first) (now part) width mask × (horizon ≡ planOf (now plan) .horizon) ⌝ }
+    requires { ⌜ RowsLent (now plan) (now marks) (now first) (now part) width mask ⌝ }
     requires { ⌜ (i < planOf (now plan) .links) × (x < planOf (now plan) .points) ⌝ }
-    ensures { λ _. ⌜ after part ≡ shapes.fillLink (planOf (before plan)) (before first) x i (before part) ⌝ }
+    ensures { λ _. ⌜ after part ≡ shapes.fillLink (planWith (before plan) horizon) (before first) x i (before part) ⌝ }
     ensures { λ _. ⌜ SameLength part ⌝ }
 {
     activation_in(plan, marks, horizon, first, part, width, mask, x, i);
@@ -266,9 +267,9 @@ fn fill_links(
     mask: usize,
     x: usize,
 )
-    requires { ⌜ RowsLent (now plan) (now marks) (now first) (now part) width mask × (horizon ≡ planOf (now plan) .horizon) ⌝ }
+    requires { ⌜ RowsLent (now plan) (now marks) (now first) (now part) width mask ⌝ }
     requires { ⌜ x < planOf (now plan) .points ⌝ }
-    ensures { λ _. ⌜ after part ≡ shapes.fillLinks (planOf (before plan)) (before first) x (before part) ⌝ }
+    ensures { λ _. ⌜ after part ≡ shapes.fillLinks (planWith (before plan) horizon) (before first) x (before part) ⌝ }
     ensures { λ _. ⌜ SameLength part ⌝ }
 {
     let n = links(plan);
@@ -330,7 +331,7 @@ pub fn fill_point(
     x: usize,
 )
     requires { ⌜ FillLent (now plan) (now marks) horizon (now first) (now part) x ⌝ }
-    ensures { λ _. ⌜ after part ≡ nextPart (planOf (before plan)) x (before first) (before part) ⌝ }
+    ensures { λ _. ⌜ after part ≡ nextPart (planWith (before plan) horizon) x (before first) (before part) ⌝ }
     ensures { λ _. ⌜ SameLength part ⌝ }
 {
     let width = point_width(plan);

@@ -14,6 +14,7 @@ ghost use mathlib.Core.Path.{_≡_};
 ghost use Prim.Native.Nat.{_^_, _<_};
 ghost use Rattle.plan.specs.Moments.{before};
 ghost use Rattle.plan.specs.Layout.{planOf};
+ghost use Rattle.plan.specs.Horizons.{planWith};
 ghost use Rattle.plan.specs.Refusal.{Accepted};
 ghost use Rattle.rules.specs.Derivations.{InPlan};
 ghost use Rattle.rules.specs.declared.Rule.the-variants as rule;
@@ -52,8 +53,8 @@ fn digit_bit(j: usize) -> usize
 
 // Rule 1 of an edge.
 pub fn edge_row(plan: &[u8], horizon: u64, e: Edge) -> Propagator
-    requires { ⌜ Accepted (now plan) × InPlan (planOf (now plan)) (rule.Propagation e) × (horizon ≡ planOf (now plan) .horizon) ⌝ }
-    ensures { λ r. ⌜ EdgeRow (planOf (before plan)) e r ⌝ }
+    requires { ⌜ Accepted (now plan) × InPlan (planOf (now plan)) (rule.Propagation e) ⌝ }
+    ensures { λ r. ⌜ EdgeRow (planWith (before plan) horizon) e r ⌝ }
 {
     let edge = constraint_of(plan, horizon, e);
     Propagator {

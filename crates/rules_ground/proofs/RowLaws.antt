@@ -1,9 +1,10 @@
 -- A rule that a match found is the rule that was asked of: its row's number fits a byte, and its points are those read.
-use mathlib.Core.Path.{_≡_, refl, ap, subst}
+use mathlib.Core.Path.{_≡_, refl, ap, subst, _∙_}
 use mathlib.Core.List.{List}
 use Prim.Native.Nat.{ℕ, _<_}
 use Rattle.plan.specs.Plan.{Plan}
 use Rattle.plan.specs.Layout.{planOf}
+use Rattle.plan.specs.Horizons.{planWith}
 use Rattle.plan.specs.Refusal.{Accepted}
 use Rattle.plan.proofs.Ranges.{link-byte, proposition-byte}
 use Rattle.rules.specs.declared.Edge.{Edge}
@@ -12,6 +13,7 @@ use Rattle.rules.specs.declared.Rule.{Rule}
 use Rattle.rules.specs.declared.Rule.the-variants.{Propagation, LowerCase, UpperCase, LetterRemoval, LiteralRemoval}
 use Rattle.rules.specs.Rules.{constraintOf}
 use Rattle.rules.specs.Derivations.{InPlan}
+use Rattle.rules.proofs.Constraints.{own-constraint}
 use Rattle.rules_ground.specs.declared.RulePoints.{RulePoints}
 use Rattle.rules_ground.specs.Searching.{PointsOf}
 
@@ -31,10 +33,13 @@ module _ (bs : List ℕ) (by : Rule) (accepted : Accepted bs) (row : InPlan (pla
   pub literal-number : (j : ℕ) → by ≡ LiteralRemoval j → j < 256
   literal-number j q = proposition-byte bs accepted j (subst (InPlan (planOf bs)) q row)
 
-module _ (P : Plan) (x : ℕ) where
-  pub constraint-points : (e : Edge) (c : Constraint) → c ≡ constraintOf P e → PointsOf P (Propagation e) x (record { given = c .from; first = c .to; second = 0 })
-  constraint-points e c q = record { given-is = ap (λ (d : Constraint). d .from) q; first-is = ap (λ (d : Constraint). d .to) q; second-is = refl }
+-- the horizon handed in is the plan's own
+pub constraint-points : (bs : List ℕ) (h x : ℕ) (e : Edge) (c : Constraint) → h ≡ planOf bs .horizon → c ≡ constraintOf (planWith bs h) e → PointsOf (planOf bs) (Propagation e) x (record { given = c .from; first = c .to; second = 0 })
+constraint-points bs h x e c own q =
+    let is = q ∙ own-constraint bs h e own in
+    record { given-is = ap (λ (d : Constraint). d .from) is; first-is = ap (λ (d : Constraint). d .to) is; second-is = refl }
 
+module _ (P : Plan) (x : ℕ) where
   module _ (by : Rule) where
     pub edge-points : (e : Edge) (at : RulePoints) → by ≡ Propagation e → PointsOf P (Propagation e) x at → PointsOf P by x at
     edge-points e at q h = rw q h

@@ -2,8 +2,9 @@
 use denote.Ref.{now}
 use borrow.Author.Needs.{needs}
 use native.Mathlib.Omega.{arith}
-use Rattle.plan.specs.Layout.{planOf}
-use Rattle.plan.proofs.Ranges.{accepted-well-formed, sizes-few}
+use Rattle.plan.specs.Horizons.{planWith}
+use Rattle.plan.proofs.Ranges.{sizes-few}
+use Rattle.plan.proofs.Horizons.{with-well-formed}
 use Rattle.rounds.proofs.RoundsMade.{stops-fit, copy-fits, round-made}
 use Rattle.rounds.proofs.running.make_round.Statement.{statement}
 use Rattle.rounds.proofs.running.make_round.Tie as tie
@@ -21,7 +22,7 @@ stops-requires : tie.Need-stops-requires
 stops-requires c κs =
     let b = c .before .before .before .before .before .before .before in
     let s = b .before .before .before .before .before .before in
-    stops-fit (planOf (now (s .args .plan))) (accepted-well-formed _ (s .pre .ready .accepted)) (b .width .result) _ _ (b .width .ensures .0) (c .before .before .before .before .next-round .ensures .1) (s .pre .ready .long-second) (b .before .points .result) _ (b .before .points .ensures .0) (s .pre .ready .long-first)
+    stops-fit (planWith (now (s .args .plan)) (s .args .horizon)) (with-well-formed _ (s .pre .ready .accepted) _ (s .pre .ready .horizon-far)) (b .width .result) _ _ (b .width .ensures .0) (c .before .before .before .before .next-round .ensures .1) (s .pre .ready .long-second) (b .before .points .result) _ (b .before .points .ensures .0) (s .pre .ready .long-first)
 
 copy-changed-requires : tie.Need-copy-changed-requires
 copy-changed-requires c κs =
@@ -45,8 +46,8 @@ returns c =
     let n = b .before .points in
     let w = b .width in
     let s = b .before .before .before .before .before .before in
-    let P = planOf (now (s .args .plan)) in
-    round-made P (accepted-well-formed _ (s .pre .ready .accepted)) (now (s .args .first)) (s .pre .ready .long-first) (now (s .args .second)) _ (n .result) (w .result) (n .ensures .0) (w .ensures .0) (m .ensures .0) _ (p .stops .result) (e .result) (m .ensures .1) (p .stops .ensures) (e .ensures .0) (e .ensures .1 .0) (e .ensures .1 .1)
+    let P = planWith (now (s .args .plan)) (s .args .horizon) in
+    round-made P (with-well-formed _ (s .pre .ready .accepted) _ (s .pre .ready .horizon-far)) (now (s .args .first)) (s .pre .ready .long-first) (now (s .args .second)) _ (n .result) (w .result) (n .ensures .0) (w .ensures .0) (m .ensures .0) _ (p .stops .result) (e .result) (m .ensures .1) (p .stops .ensures) (e .ensures .0) (e .ensures .1 .0) (e .ensures .1 .1)
 
 pub make-round-spec : {M : Type 1} → statement M
 make-round-spec =

@@ -6,8 +6,9 @@ use lib.ListN.{take}
 use denote.Ref.{now}
 use borrow.Author.Needs.{needs}
 use Rattle.plan.specs.Plan.{cells}
-use Rattle.plan.specs.Layout.{planOf}
-use Rattle.plan.proofs.Ranges.{accepted-well-formed, accepted-bounded, sizes-few}
+use Rattle.plan.specs.Horizons.{planWith}
+use Rattle.plan.proofs.Ranges.{accepted-bounded, sizes-few}
+use Rattle.plan.proofs.Horizons.{with-well-formed}
 use Rattle.rounds_sources.specs.Sources.{Unaffected}
 use Rattle.rounds.specs.Rounds.{tableFrom}
 use Rattle.rounds.proofs.RoundsMade.{alarm-fits, Held, held-none, held-lent, held-more, round-unaffected, unaffected-first, unaffected-more, ran-stopped, ran-spent}
@@ -16,7 +17,7 @@ use Rattle.rounds.proofs.running.rounds_to.Tie as tie
 
 abbrev Inv-loop : tie.InvT-loop
 Inv-loop plan marks horizon first₀ second₀ limit width sources changed₀ made₀ first second changed made =
-    (made ≤ limit) × Held (planOf plan) first₀ second₀ made first second × Unaffected (planOf plan) (tableFrom (planOf plan) (take (cells (planOf plan)) first₀) made) changed
+    (made ≤ limit) × Held (planWith plan horizon) first₀ second₀ made first second × Unaffected (planWith plan horizon) (tableFrom (planWith plan horizon) (take (cells (planWith plan horizon)) first₀) made) changed
 
 abbrev μ-loop : tie.MeasureT-loop
 μ-loop plan marks horizon first₀ second₀ limit width sources changed₀ made₀ first second changed made = limit - made
@@ -33,8 +34,8 @@ find-sources-requires c κs = let s = c .before .before .before .before .before 
 loop-holds : tie.Need-loop-holds Inv-loop μ-loop
 loop-holds c =
     let s = c .before .before .before .before .before .before .before in
-    let P = planOf (now (s .args .plan)) in
-    (omega arith, held-none P (now (s .args .first)) (now (s .args .second)) (s .pre .1 .1), unaffected-first P (accepted-well-formed _ (s .pre .0 .accepted)) (accepted-bounded _ (s .pre .0 .accepted) .points-in) (now (s .args .first)) (s .pre .0 .long-first))
+    let P = planWith (now (s .args .plan)) (s .args .horizon) in
+    (omega arith, held-none P (now (s .args .first)) (now (s .args .second)) (s .pre .1 .1), unaffected-first P (with-well-formed _ (s .pre .0 .accepted) _ (s .pre .0 .horizon-far)) (accepted-bounded _ (s .pre .0 .accepted) .points-in) (now (s .args .first)) (s .pre .0 .long-first))
 
 add-made : tie.Need-add-made Inv-loop μ-loop
 add-made c = search needs
@@ -55,7 +56,7 @@ ending-requires c κs =
     let l = c .before .before .before .before .before .before .before .before .before .before .before .loop in
     let w = c .before .before .before .before .before .before .before .before .before .before .before .before .before .before .before .width in
     let s = c .before .before .before .before .before .before .before .before .before .before .before .before .before .before .before .before .before .before .before in
-    alarm-fits (planOf (now (s .args .plan))) (accepted-well-formed _ (s .pre .0 .accepted)) (w .result) _ _ (w .ensures .0) (t .ensures .second-length ∙ l .inv .1 .second-length) (s .pre .0 .long-second)
+    alarm-fits (planWith (now (s .args .plan)) (s .args .horizon)) (with-well-formed _ (s .pre .0 .accepted) _ (s .pre .0 .horizon-far)) (w .result) _ _ (w .ensures .0) (t .ensures .second-length ∙ l .inv .1 .second-length) (s .pre .0 .long-second)
 
 same-length : tie.Need-same-length Inv-loop μ-loop
 same-length c = c .before .before .before .before .before .before .before .make-round .ensures .first-length ∙ c .before .before .before .before .before .before .before .before .before .before .before .before .loop .inv .1 .first-length
@@ -70,7 +71,7 @@ returns c =
     let l = c .before .before .before .before .before .before .before .before .before .before .before .before .loop in
     let w = c .before .before .before .before .before .before .before .before .before .before .before .before .before .before .before .before .width in
     let s = c .before .before .before .before .before .before .before .before .before .before .before .before .before .before .before .before .before .before .before .before in
-    ran-stopped (planOf (now (s .args .plan))) (accepted-well-formed _ (s .pre .0 .accepted)) (now (s .args .first)) (s .pre .0 .long-first) (now (s .args .second)) (l .made) (l .first) (l .second) (l .inv .1) _ _ (t .result .stops) (t .result .changed) (t .ensures) (s .args .limit) (w .result) _ (omega (arith, c .before .before .before .before .before .before .before .before .before .before .before .loop-test .taken)) (c .before .before .if1 .taken) (w .ensures .0) (e .ensures)
+    ran-stopped (planWith (now (s .args .plan)) (s .args .horizon)) (with-well-formed _ (s .pre .0 .accepted) _ (s .pre .0 .horizon-far)) (now (s .args .first)) (s .pre .0 .long-first) (now (s .args .second)) (l .made) (l .first) (l .second) (l .inv .1) _ _ (t .result .stops) (t .result .changed) (t .ensures) (s .args .limit) (w .result) _ (omega (arith, c .before .before .before .before .before .before .before .before .before .before .before .loop-test .taken)) (c .before .before .if1 .taken) (w .ensures .0) (e .ensures)
 
 loop-less : tie.Need-loop-less Inv-loop μ-loop
 loop-less c = search needs
@@ -80,8 +81,8 @@ loop-again c =
     let t = c .before .before .before .before .before .make-round in
     let l = c .before .before .before .before .before .before .before .before .before .before .loop in
     let s = c .before .before .before .before .before .before .before .before .before .before .before .before .before .before .before .before .before .before in
-    let P = planOf (now (s .args .plan)) in
-    let wf = accepted-well-formed _ (s .pre .0 .accepted) in (
+    let P = planWith (now (s .args .plan)) (s .args .horizon) in
+    let wf = with-well-formed _ (s .pre .0 .accepted) _ (s .pre .0 .horizon-far) in (
       omega arith,
       held-more P wf (now (s .args .first)) (s .pre .0 .long-first) (now (s .args .second)) (l .made) (l .first) (l .second) (l .inv .1) _ _ (t .result .stops) (t .result .changed) (t .ensures) (c .if1 .left),
       unaffected-more P wf (now (s .args .first)) (s .pre .0 .long-first) (now (s .args .second)) (l .made) (l .first) (l .second) (l .inv .1) (t .result .changed) (round-unaffected P wf (accepted-bounded _ (s .pre .0 .accepted) .points-in) (l .first) (l .second) _ _ _ (t .result .changed) (omega (arith, l .inv .1 .first-length, s .pre .0 .long-first)) (omega (arith, l .inv .1 .second-length, s .pre .0 .long-second)) (t .ensures)),
@@ -97,7 +98,7 @@ returns-2 : tie.Need-returns-2 Inv-loop μ-loop
 returns-2 c =
     let l = c .before .loop in
     let s = c .before .before .before .before .before .before .before .before .before in
-    ran-spent (planOf (now (s .args .plan))) (accepted-well-formed _ (s .pre .0 .accepted)) (now (s .args .first)) (s .pre .0 .long-first) (now (s .args .second)) (l .made) (l .first) (l .second) (l .inv .1) (s .args .limit) (omega arith)
+    ran-spent (planWith (now (s .args .plan)) (s .args .horizon)) (with-well-formed _ (s .pre .0 .accepted) _ (s .pre .0 .horizon-far)) (now (s .args .first)) (s .pre .0 .long-first) (now (s .args .second)) (l .made) (l .first) (l .second) (l .inv .1) (s .args .limit) (omega arith)
 
 pub rounds-to-spec : {M : Type 1} → statement M
 rounds-to-spec =

@@ -2,7 +2,7 @@
 use mathlib.Core.Path.{refl}
 use denote.Ref.{now}
 use borrow.Author.Needs.{needs}
-use Rattle.plan.specs.Layout.{planOf}
+use Rattle.plan.specs.Horizons.{planWith}
 use Rattle.plan.proofs.Ranges.{sizes-few}
 use Rattle.rounds.proofs.RoundsMade.{ready-on, copied-same, copied-ran}
 use Rattle.rounds.proofs.running.run.Statement.{statement}
@@ -19,7 +19,7 @@ rounds-to-requires c κs =
     let y = c .before .before .before .before .copy-cells in
     let e = c .before .before .before .before .before .before .before .cells in
     let s = c .before .before .before .before .before .before .before .before .before .before .before in
-    (ready-on _ _ _ _ _ _ _ (s .pre .0) refl (y .ensures .1), (s .pre .1, copied-same (planOf (now (s .args .plan))) (now (s .args .first)) _ (now (s .args .second)) (e .result) (s .pre .0 .long-first) (e .ensures) (y .ensures .0)))
+    (ready-on _ _ _ _ _ _ _ (s .pre .0) refl (y .ensures .1), (s .pre .1, copied-same (planWith (now (s .args .plan)) (s .args .horizon)) (now (s .args .first)) _ (now (s .args .second)) (e .result) (s .pre .0 .long-first) (e .ensures) (y .ensures .0)))
 
 same-length : tie.Need-same-length
 same-length c = search needs
@@ -32,7 +32,7 @@ returns c =
     let y = c .before .before .before .before .before .before .before .before .before .copy-cells in
     let e = c .before .before .before .before .before .before .before .before .before .before .before .before .cells in
     let s = c .before .before .before .before .before .before .before .before .before .before .before .before .before .before .before .before in
-    copied-ran (planOf (now (s .args .plan))) (now (s .args .first)) _ (now (s .args .second)) (e .result) (s .pre .0 .long-first) (e .ensures) (y .ensures .0) (s .args .limit) _ _ _ (y .ensures .1) (c .before .before .before .before .rounds-to .ensures)
+    copied-ran (planWith (now (s .args .plan)) (s .args .horizon)) (now (s .args .first)) _ (now (s .args .second)) (e .result) (s .pre .0 .long-first) (e .ensures) (y .ensures .0) (s .args .limit) _ _ _ (y .ensures .1) (c .before .before .before .before .rounds-to .ensures)
 
 pub run-spec : {M : Type 1} → statement M
 run-spec =

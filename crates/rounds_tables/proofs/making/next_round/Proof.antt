@@ -7,6 +7,7 @@ use lib.ListN.{length}
 use denote.Ref.{now}
 use borrow.Author.Needs.{needs}
 use Rattle.plan.specs.Layout.{planOf}
+use Rattle.plan.specs.Horizons.{planWith}
 use Rattle.plan.proofs.Ranges.{sizes-few}
 use Rattle.rules_fill.specs.Parts.{nextCells, laidOver}
 use Rattle.rules_fill.proofs.Laying.{laid-none}
@@ -16,14 +17,14 @@ use Rattle.rounds_tables.proofs.making.next_round.Tie as tie
 
 abbrev Inv-loop : tie.InvT-loop
 Inv-loop plan marks horizon first second₀ sources changed n width end x₀ second x =
-    (x ≤ n) × (second ≡ laidOver (x * width) (nextCells (planOf plan) first) second₀) × (length second ≡ length second₀)
+    (x ≤ n) × (second ≡ laidOver (x * width) (nextCells (planWith plan horizon) first) second₀) × (length second ≡ length second₀)
 
 abbrev μ-loop : tie.MeasureT-loop
 μ-loop plan marks horizon first second₀ sources changed n width end x₀ second x = n - x
 
 -- where a pass of the loop stands
 point : (c : tie.In-loop Inv-loop μ-loop)
-    → AtPoint (now (c .before .before .before .before .before .before .before .before .before .args .plan)) (now (c .before .before .before .before .before .before .before .before .before .args .first)) (now (c .before .before .before .before .before .before .before .before .before .args .second)) (c .before .before .before .width .result) (c .before .before .cells .result) (c .before .loop .x) (c .before .loop .second)
+    → AtPoint (now (c .before .before .before .before .before .before .before .before .before .args .plan)) (c .before .before .before .before .before .before .before .before .before .args .horizon) (now (c .before .before .before .before .before .before .before .before .before .args .first)) (now (c .before .before .before .before .before .before .before .before .before .args .second)) (c .before .before .before .width .result) (c .before .before .cells .result) (c .before .loop .x) (c .before .loop .second)
 point c =
     let s = c .before .before .before .before .before .before .before .before .before in
     let l = c .before .loop in
@@ -69,7 +70,7 @@ refill-point-requires : tie.Need-refill-point-requires Inv-loop μ-loop
 refill-point-requires c κs =
     let s = c .before .before .before .before .before .before .before .before .before .before .before .before in
     let p = point (c .before .before .before) in
-    (record { lent = p .lent; marked = s .pre .ready .marked; horizon-is = s .pre .ready .horizon-is; point-in = p .x-in }, point-lent _ _ _ _ _ _ _ (s .pre) _ _ _ _ p)
+    (record { lent = p .lent; marked = s .pre .ready .marked; horizon-far = s .pre .ready .horizon-far; point-in = p .x-in }, point-lent _ _ _ _ _ _ _ (s .pre) _ _ _ _ p)
 
 add-x : tie.Need-add-x Inv-loop μ-loop
 add-x c = search needs

@@ -1,9 +1,10 @@
 -- `rules_apply::propagation::apply_edge` meets its contract: what `along` gives for what the edge says.
-use mathlib.Core.Path.{_≡_, subst}
+use mathlib.Core.Path.{_≡_, subst, _∙_}
 use mathlib.Core.List.{List}
 use Prim.Native.Nat.{ℕ}
 use borrow.Author.Needs.{needs}
 use Rattle.plan.specs.Layout.{planOf}
+use Rattle.plan.specs.Horizons.{planWith}
 use Rattle.plan.specs.Refusal.{Accepted}
 use Rattle.plan.proofs.Ranges.{accepted-well-formed, accepted-bounded}
 use Rattle.rules.specs.declared.Line.{Line}
@@ -12,6 +13,7 @@ use Rattle.rules.specs.declared.Constraint.{Constraint}
 use Rattle.rules.specs.declared.Rule.the-variants.{Propagation}
 use Rattle.rules.specs.Rules.{constraintOf}
 use Rattle.rules.specs.Derivations.{InPlan}
+use Rattle.rules.proofs.Constraints.{own-constraint}
 use Rattle.rules.proofs.InRange.{edge-range}
 use Rattle.rules_apply.specs.declared.Applied.{Applied}
 use Rattle.rules_apply.specs.Applying.{applied}
@@ -20,9 +22,9 @@ use Rattle.rules_apply.proofs.ApplyLaws.{label-byte}
 use Rattle.rules_apply.proofs.propagation.apply_edge.Statement.{statement}
 use Rattle.rules_apply.proofs.propagation.apply_edge.Tie as tie
 
-along-edge : (bs : List ℕ) (e : Edge) (c : Constraint) (l : Line) (r : Applied) → Accepted bs → InPlan (planOf bs) (Propagation e) → InLabels (planOf bs) l → c ≡ constraintOf (planOf bs) e → Along c l r → r ≡ applied (planOf bs) (Propagation e) l l
-along-edge bs e c l r accepted row inside is f =
-    subst (λ (d : Constraint). Along d l r) is f (planOf bs .propositions) (accepted-bounded bs accepted .propositions-in) (edge-range (planOf bs) (accepted-well-formed bs accepted) e row .label-in) (inside .label-in)
+along-edge : (bs : List ℕ) (h : ℕ) (e : Edge) (c : Constraint) (l : Line) (r : Applied) → Accepted bs → InPlan (planOf bs) (Propagation e) → InLabels (planOf bs) l → h ≡ planOf bs .horizon → c ≡ constraintOf (planWith bs h) e → Along c l r → r ≡ applied (planOf bs) (Propagation e) l l
+along-edge bs h e c l r accepted row inside own is f =
+    subst (λ (d : Constraint). Along d l r) (is ∙ own-constraint bs h e own) f (planOf bs .propositions) (accepted-bounded bs accepted .propositions-in) (edge-range (planOf bs) (accepted-well-formed bs accepted) e row .label-in) (inside .label-in)
 
 constraint-of-requires : tie.Need-constraint-of-requires
 constraint-of-requires c κs = search needs

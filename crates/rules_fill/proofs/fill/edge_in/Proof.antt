@@ -2,7 +2,7 @@
 use denote.Ref.{now}
 use Rattle.plan.specs.Layout.{planOf}
 use Rattle.plan.proofs.Ranges.{accepted-well-formed}
-use Rattle.rules.proofs.InRange.{edge-range}
+use Rattle.rules.proofs.InRange.{edge-within}
 use Rattle.rules_fill.specs.Shapes.{edgeIn}
 use Rattle.rules_fill.proofs.ShapeLaws.{propagate-by, label-in}
 use Rattle.rules_fill.proofs.Lending.{propagate-lent}
@@ -16,10 +16,9 @@ edge-row-requires c κs = search needs
 propagate-in-requires : tie.Need-propagate-in-requires
 propagate-in-requires c κs =
     let s = c .before .before .before .before .before in
-    let P = planOf (now (s .args .plan)) in
     let k = c .before .edge-row .ensures in
-    let i = edge-range P (accepted-well-formed (now (s .args .plan)) (s .pre .0 .0 .lent .accepted)) (s .args .e) (s .pre .1) in
-    propagate-lent _ _ _ _ _ _ _ _ _ (s .pre .0 .0) (k .down-small) (k .from-is) (i .to-in) (k .add-is) (label-in P _ (i .label-in))
+    let i = edge-within (planOf (now (s .args .plan))) (accepted-well-formed _ (s .pre .0 .lent .accepted)) (s .args .horizon) (s .args .e) (s .pre .1) in
+    propagate-lent _ _ _ _ _ _ _ _ _ (s .pre .0) (k .down-small) (k .from-is) (i .to-in) (k .add-is) (label-in (planOf (now (s .args .plan))) _ (i .label-in))
 
 same-length : tie.Need-same-length
 same-length c = search needs
@@ -27,7 +26,7 @@ same-length c = search needs
 returns : tie.Need-returns
 unfolding edgeIn
 returns c =
-    let h = c .before .before .before .before .before .before .before .before .pre .0 .0 .numbers in
+    let h = c .before .before .before .before .before .before .before .before .pre .0 .numbers in
     let k = c .before .before .before .before .edge-row .ensures in
     let r = c .before .before .propagate-in .ensures in
     (propagate-by _ _ _ _ _ _ _ _ _ _ _ _ _ _ _ _ _ (h .width-is) (h .mask-is) (k .from-is) (k .avoid-is) (k .add-is) (k .up-is) (k .down-is) (r .0), r .1)

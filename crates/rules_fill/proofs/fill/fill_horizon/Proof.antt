@@ -4,7 +4,7 @@ use Prim.Native.Nat.{suc, _-_, _≤_, _<_}
 use native.Mathlib.Omega.{arith}
 use lib.ListN.{length}
 use denote.Ref.{now}
-use Rattle.plan.specs.Layout.{planOf}
+use Rattle.plan.specs.Horizons.{planWith}
 use Rattle.plan.proofs.Ranges.{accepted-well-formed}
 use Rattle.rules.specs.declared.Edge.the-variants.{HorizonEdge}
 use Rattle.rules_fill.specs.Steps.{steps}
@@ -17,7 +17,7 @@ use Rattle.rules_fill.proofs.fill.fill_horizon.Statement.{statement}
 use Rattle.rules_fill.proofs.fill.fill_horizon.Tie as tie
 
 abbrev Inv-loop : tie.InvT-loop
-Inv-loop plan marks horizon first part₀ width mask n y₀ part y = (0 < y) × (y ≤ n) × (part ≡ steps (λ z. edgeIn (planOf plan) first (HorizonEdge (suc z))) (y - 1) part₀) × (length part ≡ length part₀)
+Inv-loop plan marks horizon first part₀ width mask n y₀ part y = (0 < y) × (y ≤ n) × (part ≡ steps (λ z. edgeIn (planWith plan horizon) first (HorizonEdge (suc z))) (y - 1) part₀) × (length part ≡ length part₀)
 
 abbrev μ-loop : tie.MeasureT-loop
 μ-loop plan marks horizon first part₀ width mask n y₀ part y = n - y
@@ -28,12 +28,12 @@ points-requires c κs = search needs
 loop-holds : tie.Need-loop-holds Inv-loop μ-loop
 loop-holds c =
     let s = c .before .before .before .before in
-    (omega arith, omega (arith, c .points .ensures .0, accepted-well-formed (now (s .args .plan)) (s .pre .0 .lent .accepted) .two), steps-none _ _, refl)
+    (omega arith, omega (arith, c .points .ensures .0, accepted-well-formed (now (s .args .plan)) (s .pre .lent .accepted) .two), steps-none _ _, refl)
 
 edge-in-requires : tie.Need-edge-in-requires Inv-loop μ-loop
 edge-in-requires c κs =
     let p = c .before .before .before .before .before .before .before .pre in
-    ((rows-on _ _ _ _ _ _ _ (p .0) (c .before .before .loop .inv .3), p .1), (c .before .before .loop .inv .0, omega (arith, c .before .before .before .points .ensures .0)))
+    (rows-on _ _ _ _ _ _ _ p (c .before .before .loop .inv .3), (c .before .before .loop .inv .0, omega (arith, c .before .before .before .points .ensures .0)))
 
 add-y : tie.Need-add-y Inv-loop μ-loop
 add-y c = omega arith

@@ -1,5 +1,6 @@
 -- The rules and the edges one after the other.
 use mathlib.Core.Path.{_∙_}
+use Rattle.rules_fill.specs.Shapes.{letterIn}
 use Rattle.rules_fill.proofs.ShapeLaws.{link-by}
 use Rattle.rules_fill.proofs.Lending.{lent-on, rows-on}
 use borrow.Author.Needs.{needs}
@@ -12,17 +13,18 @@ activation-in-requires c κs = let p = c .before .before .before .before .pre in
 finish-in-requires : tie.Need-finish-in-requires
 finish-in-requires c κs =
     let p = c .before .before .before .before .before .before .before .before .pre in
-    ((rows-on _ _ _ _ _ _ _ (p .0 .0) (c .before .before .before .activation-in .ensures .1), p .0 .1), p .1 .0)
+    (rows-on _ _ _ _ _ _ _ (p .0) (c .before .before .before .activation-in .ensures .1), p .1 .0)
 
 letter-in-requires : tie.Need-letter-in-requires
 letter-in-requires c κs =
     let p = c .before .before .before .before .before .before .before .before .before .before .before .before .pre in
-    (record { lent = lent-on _ _ _ _ (p .0 .0 .lent) (c .before .before .before .finish-in .ensures .1 ∙ c .before .before .before .before .before .before .before .activation-in .ensures .1); width-is = p .0 .0 .numbers .width-is; point-in = p .1 .1 }, p .1 .0)
+    (record { lent = lent-on _ _ _ _ (p .0 .lent) (c .before .before .before .finish-in .ensures .1 ∙ c .before .before .before .before .before .before .before .activation-in .ensures .1); width-is = p .0 .numbers .width-is; point-in = p .1 .1 }, p .1 .0)
 
 same-length : tie.Need-same-length
 same-length c = search needs
 
 returns : tie.Need-returns
+unfolding letterIn
 returns c =
     let a = c .before .before .before .before .before .before .before .before .before .before .activation-in .ensures in
     let d = c .before .before .before .before .before .before .finish-in .ensures in

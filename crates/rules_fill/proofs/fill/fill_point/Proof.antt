@@ -6,10 +6,13 @@ use native.Mathlib.Omega.{arith}
 use lib.ListN.{length, length-drop}
 use denote.Ref.{now}
 use Rattle.plan.specs.Layout.{planOf}
-use Rattle.plan.proofs.Ranges.{accepted-well-formed, accepted-bounded}
+use Rattle.plan.specs.Horizons.{planWith}
+use Rattle.plan.proofs.Ranges.{accepted-bounded}
+use Rattle.plan.proofs.Horizons.{with-well-formed}
 use Rattle.rules_fill.proofs.ShapeLaws.{row-in}
 use Rattle.rules_fill.proofs.ShapeWhole.{fill-by}
 use Rattle.rules_fill.specs.Parts.{laidOver}
+use Rattle.rules_fill.specs.Shapes.{ownLiteralIn, literalIn, fillOwnLiteral, fillProposition, fillPropositions}
 use Rattle.rules_fill.proofs.Laying.{lent-part}
 use Rattle.rules_fill.proofs.Lending.{lent-on}
 use borrow.Author.Needs.{needs}
@@ -51,17 +54,17 @@ copy-cells-requires c κs =
 fill-edges-requires : tie.Need-fill-edges-requires
 fill-edges-requires c κs =
     let p = c .before .before .before .before .before .before .before .before .before .before .before .pre in
-    (record { lent = lent-on _ _ _ _ (p .lent) (c .before .before .before .copy-cells .ensures .1); numbers = record { width-is = c .before .before .before .before .before .before .before .width .ensures .0; mask-is = c .before .before .before .before .before .before .label-mask .ensures .0 }; marked = p .marked }, p .horizon-is)
+    record { lent = lent-on _ _ _ _ (p .lent) (c .before .before .before .copy-cells .ensures .1); numbers = record { width-is = c .before .before .before .before .before .before .before .width .ensures .0; mask-is = c .before .before .before .before .before .before .label-mask .ensures .0 }; marked = p .marked }
 
 horizon-at-requires : tie.Need-horizon-at-requires
 horizon-at-requires c κs =
     let p = c .before .before .before .before .before .before .before .before .before .before .before .before .before .before .before .pre in
-    (record { lent = lent-on _ _ _ _ (p .lent) (c .before .before .before .fill-edges .ensures .1 ∙ c .before .before .before .before .before .before .before .copy-cells .ensures .1); numbers = record { width-is = c .before .before .before .before .before .before .before .before .before .before .before .width .ensures .0; mask-is = c .before .before .before .before .before .before .before .before .before .before .label-mask .ensures .0 }; marked = p .marked }, p .horizon-is)
+    record { lent = lent-on _ _ _ _ (p .lent) (c .before .before .before .fill-edges .ensures .1 ∙ c .before .before .before .before .before .before .before .copy-cells .ensures .1); numbers = record { width-is = c .before .before .before .before .before .before .before .before .before .before .before .width .ensures .0; mask-is = c .before .before .before .before .before .before .before .before .before .before .label-mask .ensures .0 }; marked = p .marked }
 
 fill-links-requires : tie.Need-fill-links-requires
 fill-links-requires c κs =
     let p = c .before .before .before .before .before .before .before .before .before .before .before .before .before .before .before .before .before .before .before .pre in
-    ((record { lent = lent-on _ _ _ _ (p .lent) (c .before .before .before .horizon-at .ensures .1 ∙ c .before .before .before .before .before .before .before .fill-edges .ensures .1 ∙ c .before .before .before .before .before .before .before .before .before .before .before .copy-cells .ensures .1); numbers = record { width-is = c .before .before .before .before .before .before .before .before .before .before .before .before .before .before .before .width .ensures .0; mask-is = c .before .before .before .before .before .before .before .before .before .before .before .before .before .before .label-mask .ensures .0 }; marked = p .marked }, p .horizon-is), p .point-in)
+    (record { lent = lent-on _ _ _ _ (p .lent) (c .before .before .before .horizon-at .ensures .1 ∙ c .before .before .before .before .before .before .before .fill-edges .ensures .1 ∙ c .before .before .before .before .before .before .before .before .before .before .before .copy-cells .ensures .1); numbers = record { width-is = c .before .before .before .before .before .before .before .before .before .before .before .before .before .before .before .width .ensures .0; mask-is = c .before .before .before .before .before .before .before .before .before .before .before .before .before .before .label-mask .ensures .0 }; marked = p .marked }, p .point-in)
 
 fill-propositions-requires : tie.Need-fill-propositions-requires
 fill-propositions-requires c κs =
@@ -72,7 +75,7 @@ same-length : tie.Need-same-length
 same-length c = search needs
 
 returns : tie.Need-returns
-unfolding laidOver
+unfolding laidOver fillPropositions fillProposition fillOwnLiteral ownLiteralIn literalIn
 returns c =
     let s = c .before .before .before .before .before .before .before .before .before .before .before .before .before .before .before .before .before .before .before .before .before .before .before .before .before .before in
     let bs = now (s .args .plan) in
@@ -84,7 +87,7 @@ returns c =
     let links = c .before .before .before .before .before .before .fill-links .ensures in
     let all = c .before .before .fill-propositions .ensures in
     let point = copied .0 ∙ ap (λ (l : List ℕ). laidOver (w .result) l (now (s .args .part))) (lent-part (s .args .x * w .result) F) in
-    (fill-by (planOf bs) (accepted-well-formed bs (s .pre .lent .accepted)) (accepted-bounded bs (s .pre .lent .accepted) .propositions-in) F (s .pre .lent .long-first) (s .args .x) (s .pre .point-in) _ _ _ _ _ _ _ (w .ensures .0) point (edges .0) (horizon .0) (links .0) (all .0), all .1 ∙ links .1 ∙ horizon .1 ∙ edges .1 ∙ copied .1)
+    (fill-by (planWith bs (s .args .horizon)) (with-well-formed bs (s .pre .lent .accepted) (s .args .horizon) (s .pre .horizon-far)) (accepted-bounded bs (s .pre .lent .accepted) .propositions-in) F (s .pre .lent .long-first) (s .args .x) (s .pre .point-in) _ _ _ _ _ _ _ (w .ensures .0) point (edges .0) (horizon .0) (links .0) (all .0), all .1 ∙ links .1 ∙ horizon .1 ∙ edges .1 ∙ copied .1)
 
 pub fill-point-spec : {M : Type 1} → statement M
 fill-point-spec =

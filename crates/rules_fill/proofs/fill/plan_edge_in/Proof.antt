@@ -9,7 +9,7 @@ use Rattle.rules_fill.proofs.fill.plan_edge_in.Statement.{statement}
 use Rattle.rules_fill.proofs.fill.plan_edge_in.Tie as tie
 
 edge-from-requires : tie.Need-edge-from-requires
-edge-from-requires c κs = let s = c .before .before .before in edge-byte (now (s .args .plan)) (s .pre .0 .0 .lent .accepted) _ (s .pre .1)
+edge-from-requires c κs = let s = c .before .before .before in edge-byte (now (s .args .plan)) (s .pre .0 .lent .accepted) _ (s .pre .1)
 
 returns : tie.Need-returns
 unfolding fillEdge
