@@ -18,14 +18,14 @@
  *     SULGRACH_SPENT             2   the limit was too small to tell
  *     SULGRACH_REFUSED + N   100+N   turned down for the reason N
  *
- * Those of sulgrach_page:
+ * Those of sulgrach_page and sulgrach_breaking_rows:
  *
- *     SULGRACH_DONE              0   the page is in the output
+ *     SULGRACH_DONE              0   the page is in the output; the rows are marked
  *     SULGRACH_REFUSED + N   100+N   turned down for the reason N
  *
  * The reasons; 1 to 7 are judged in the order: under 4 bytes, 2, length, 3, 4, 5, 6, 7; those of sulgrach_check_classes
  * in the order: under 4 bytes, 2, length, 3, 4, 5, 14, 15, 6; those of sulgrach_page in the order: under 4 bytes, 2,
- * length, 3, 4, 5, 6, 12, 13.
+ * length, 3, 4, 5, 6, 12, 13; those of sulgrach_breaking_rows in the order: under 4 bytes, 2, length, 3, 4, 5, 6, 16.
  *
  *      1   the plan has under 4 bytes, or a length other than its sizes ask for
  *      2   a size, or the number of cells, is out of bounds
@@ -34,7 +34,7 @@
  *          durations that are not 0 < least < most <= SULGRACH_SECONDS
  *      5   an edge has an end that is no point, equal ends, a weight beyond SULGRACH_SECONDS either way, a wrong label,
  *          or a last byte that is not 0
- *      6   a lent table is shorter than the plan's cells
+ *      6   a lent table is shorter than the plan's cells, or the marks are fewer than its edges
  *      7   the listing has over 4,096 lines or is longer than the output      (sulgrach_list)
  *      8   the bytes are not laid out as a listing of 1 to 4,096 lines        (sulgrach_replay)
  *      9   a line's point, set, label, rule, row or parent is out of range    (sulgrach_replay)
@@ -44,6 +44,7 @@
  *     13   the output is too short for all lines                              (sulgrach_page)
  *     14   there are not as many classes as links, or a class is above 6      (sulgrach_check_classes)
  *     15   a link is narrower than its class                                  (sulgrach_check_classes)
+ *     16   the plan is kept                                                   (sulgrach_breaking_rows)
  */
 #ifndef SULGRACH_H
 #define SULGRACH_H
@@ -71,6 +72,9 @@ extern "C" {
 /* No plan has more cells, so tables of this length are never too short. */
 #define SULGRACH_CELLS 16384
 
+/* No plan has more edges, so marks of this length are never too few. */
+#define SULGRACH_EDGES 128
+
 /* With this limit no accepted plan is spent. */
 #define SULGRACH_ROUNDS UINT64_C(15571369985)
 
@@ -80,8 +84,8 @@ extern "C" {
 /* No page is longer, in bytes. */
 #define SULGRACH_PAGE 360448
 
-/* Each call takes less stack than this, in bytes. Measured, not proved: a call itself took up to 1,936, and the first of
- * a program up to 4,552 where the dynamic linker looks for memset only then (-z lazy). */
+/* Each call takes less stack than this, in bytes. Measured, not proved: a call itself took up to 3,208, and the first of
+ * a program up to 4,616 where the dynamic linker looks for memset only then (-z lazy). */
 #define SULGRACH_STACK 8192
 
 /* The check of a plan, with two tables and a limit of rounds; the answer is a code. What is written:
@@ -169,6 +173,30 @@ uint32_t sulgrach_page(
     const uint8_t *plan, size_t plan_length,
     const uint32_t *table, size_t table_length,
     uint8_t *out, size_t out_length,
+    uint64_t *numbers, size_t numbers_length);
+
+/* The edge rows that break a plan; the answer is a code. The rows are tried in their order, and each is left out if the
+ * links and the other rows that are left are still broken without it. So the rows that remain are broken, and with any
+ * one of them removed the plan is kept. A plan that its links break by themselves is left with no row.
+ *
+ * Each trial is a check with the horizon of the whole plan, and with as many rounds as the whole plan can need, so that
+ * no trial is spent and a plan with fewer rows waits no longer. Rows are tried several at once where that comes to the
+ * same; but a trial can take far longer than the check of the plan, since a contradiction that is left may be harder to
+ * find. What is written:
+ *
+ *     done                  rows[i] for each edge i: 1 if it remains, else 0;
+ *                           numbers[0], if there is one: how many rows remain;
+ *                           the plan's cells of `first` and of `second`: both hold the waits of a trial of these rows
+ *     refused, 16           the plan's cells of `first` and of `second`: both hold the waits of the whole plan
+ *     refused, 1 to 6       nothing, also where only `rows` is too short
+ *
+ * Entries of the tables past the plan's cells are never written, nor are marks past the edges or entries of `numbers`
+ * past the first. */
+uint32_t sulgrach_breaking_rows(
+    const uint8_t *plan, size_t plan_length,
+    uint32_t *first, size_t first_length,
+    uint32_t *second, size_t second_length,
+    uint8_t *rows, size_t rows_length,
     uint64_t *numbers, size_t numbers_length);
 
 #ifdef __cplusplus

@@ -2,4 +2,5 @@
 mod CodeLaws
 mod ListLaws
 mod PageCodes
+mod RowsCodes
 mod CheckThenPage

@@ -10,7 +10,9 @@ use Rattle.classes.specs.AfterCheckClasses.{AfterCheckClasses}
 use Rattle.listing.specs.AfterList.{AfterList}
 use Rattle.page.specs.Page.{PageOutcome}
 use Rattle.page.specs.AfterPage.{AfterPage}
-use Rattle.interface.specs.Codes.{codeOf, countInto, numbersInto, pageCode, pageNumbers}
+use Rattle.minimal_rows.specs.BreakingRows.{RowsOutcome}
+use Rattle.minimal_rows.specs.AfterBreakingRows.{AfterBreakingRows}
+use Rattle.interface.specs.Codes.{codeOf, countInto, numbersInto, pageCode, pageNumbers, rowsCode, rowsNumbers}
 
 -- sulgrach_check answered with this code
 pub record AfterCheckCall (plan : List ℕ) (limit : ℕ) (first second rounds : Moments) (code : ℕ) : Type 0 where
@@ -40,3 +42,10 @@ pub record AfterPageCall (plan table : List ℕ) (out numbers : Moments) (code :
   pub page : AfterPage plan table out outcome
   pub code-is : code ≡ pageCode outcome
   pub numbers-are : numbers .exit ≡ pageNumbers outcome (numbers .entry)
+
+-- sulgrach_breaking_rows answered with this code
+pub record AfterBreakingRowsCall (plan : List ℕ) (first second marks numbers : Moments) (code : ℕ) : Type 0 where
+  pub outcome : RowsOutcome
+  pub rows : AfterBreakingRows plan first second marks outcome
+  pub code-is : code ≡ rowsCode outcome
+  pub numbers-are : numbers .exit ≡ rowsNumbers outcome (numbers .entry)

@@ -4,6 +4,7 @@ use Prim.Native.Nat.{ℕ, _+_}
 use lib.ListN.{set}
 use Rattle.rounds.specs.Outcomes.{Outcome, kept, broken, spent, refused}
 use Rattle.page.specs.Page as page
+use Rattle.minimal_rows.specs.BreakingRows as breaking
 
 -- 14.2: the code of an answer
 abbrev pub codeOf : Outcome → ℕ
@@ -39,3 +40,13 @@ pageCode (page.refused n) = 100 + n
 abbrev pub pageNumbers : page.PageOutcome → List ℕ → List ℕ
 pageNumbers (page.printed n) ns = set ns 0 n
 pageNumbers (page.refused n) ns = ns
+
+-- 14.2: the code of what the rows that break a plan are answered with
+abbrev pub rowsCode : breaking.RowsOutcome → ℕ
+rowsCode (breaking.rows n) = 0
+rowsCode (breaking.refused n) = 100 + n
+
+-- 14.3: its numbers: how many rows remain in entry 0; untouched where refused
+abbrev pub rowsNumbers : breaking.RowsOutcome → List ℕ → List ℕ
+rowsNumbers (breaking.rows n) ns = set ns 0 n
+rowsNumbers (breaking.refused n) ns = ns

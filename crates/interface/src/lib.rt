@@ -3,9 +3,11 @@ mod answers;
 mod calls;
 mod list;
 mod paging;
+mod reducing;
 
 pub use calls::sulgrach_check;
 pub use calls::sulgrach_check_classes;
 pub use calls::sulgrach_replay;
 pub use list::sulgrach_list;
 pub use paging::sulgrach_page;
+pub use reducing::sulgrach_breaking_rows;

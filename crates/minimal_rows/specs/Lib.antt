@@ -1,0 +1,4 @@
+pub mod Trials
+pub mod BreakingRows
+pub mod AfterBreakingRows
+pub mod Reducing
