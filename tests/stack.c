@@ -1,6 +1,6 @@
 /* Prints how much stack a call of the library takes.
  *
- *     stack check|classes0|classes3|classes7|list|replay|page|page12|page13 LIMIT PLAN...
+ *     stack check|classes0|classes3|classes7|list|replay|page|page12|page13|rows LIMIT PLAN...
  *
  * The call runs on a stack of its own, filled with a pattern beforehand; afterwards the pattern is gone as far down as
  * the call went. For each plan a line: the call's code, bytes of stack. The caller's arguments and its way into the call
@@ -17,7 +17,7 @@
 static uint64_t numbers[2], limit;
 static uint32_t first[SULGRACH_CELLS], second[SULGRACH_CELLS], code;
 static uint16_t lines[SULGRACH_CELLS];
-static uint8_t plan[801], classes[255], out[SULGRACH_LISTING], text[SULGRACH_PAGE], stack[STACK];
+static uint8_t plan[801], classes[255], out[SULGRACH_LISTING], text[SULGRACH_PAGE], marks[SULGRACH_EDGES], stack[STACK];
 static size_t length, text_length;
 static ucontext_t outside, inside;
 
@@ -43,6 +43,12 @@ static void replay(void) {
 
 static void page(void) {
     code = sulgrach_page(plan, length, first, SULGRACH_CELLS, text, text_length, numbers, 2);
+}
+
+/* Without a limit of rounds. */
+static void rows(void) {
+    code = sulgrach_breaking_rows(plan, length, first, SULGRACH_CELLS, second, SULGRACH_CELLS, marks, sizeof marks,
+        numbers, 2);
 }
 
 /* All links have the class that the word ends with. Not by memset, see paint. */
@@ -111,6 +117,8 @@ int main(int count, char **words) {
         } else if (strcmp(words[1], "replay") == 0) {
             list();
             used = measure(replay);
+        } else if (strcmp(words[1], "rows") == 0) {
+            used = measure(rows);
         } else {
             fill(words[1]);
             used = measure(page);

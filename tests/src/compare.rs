@@ -35,12 +35,14 @@ struct Calls {
     listings: u64,
     replays: u64,
     pages: u64,
+    breaking_rows: u64,
 }
 
 thread_local! {
     /// Those of the test that runs on this thread.
-    static CALLS: Cell<Calls> =
-        const { Cell::new(Calls { checks: 0, class_checks: 0, listings: 0, replays: 0, pages: 0 }) };
+    static CALLS: Cell<Calls> = const {
+        Cell::new(Calls { checks: 0, class_checks: 0, listings: 0, replays: 0, pages: 0, breaking_rows: 0 })
+    };
 }
 
 fn add(change: impl FnOnce(&mut Calls)) {
@@ -54,10 +56,10 @@ fn add(change: impl FnOnce(&mut Calls)) {
 /// Prints how many calls a test has compared; it ends with this. The count
 /// starts again from 0, since the next test may run on the same thread.
 pub fn print_calls(test: &str) {
-    let Calls { checks, class_checks, listings, replays, pages } = CALLS.take();
+    let Calls { checks, class_checks, listings, replays, pages, breaking_rows } = CALLS.take();
     println!(
         "{test}: compared {checks} checks, {class_checks} checks by classes, {listings} listings, \
-         {replays} replays, {pages} pages"
+         {replays} replays, {pages} pages, {breaking_rows} breaking rows"
     );
 }
 
@@ -89,9 +91,9 @@ fn dirty_bytes(random: &mut Random, length: usize) -> Vec<u8> {
     (0..length).map(|_| random.number() as u8).collect()
 }
 
-/// Bytes that are no character of a page, so that one left as it was is told
-/// from one written.
-fn unprinted_bytes(random: &mut Random, length: usize) -> Vec<u8> {
+/// Bytes that are no character of a page and no mark of a row, so that one left as
+/// it was is told from one written.
+fn unwritten_bytes(random: &mut Random, length: usize) -> Vec<u8> {
     dirty_bytes(random, length).into_iter().map(|byte| byte | 128).collect()
 }
 
@@ -112,19 +114,20 @@ fn same<T: PartialEq + Display>(of: &str, library: &[T], second: &[T], case: &dy
     }
 }
 
-/// The memory that a check may write to.
+/// The memory that a check may write to: two tables, and the numbers of its
+/// answer.
 #[derive(Clone)]
 struct Lent {
     first: Vec<u32>,
     second: Vec<u32>,
-    rounds: Vec<u64>,
+    numbers: Vec<u64>,
 }
 
 impl Lent {
     fn dirty(random: &mut Random, lengths: Lengths) -> Self {
         let [first, second] = [lengths.first, lengths.second].map(|length| dirty_words(random, length));
         let count = random.below(4);
-        Lent { first, second, rounds: dirty_numbers(random, count) }
+        Lent { first, second, numbers: dirty_numbers(random, count) }
     }
 }
 
@@ -135,7 +138,7 @@ fn by_second(
 ) -> (u32, Lent) {
     let mut lent = before.clone();
     let answer = check(&mut lent.first, &mut lent.second);
-    if let (Ok(answer), Some(count)) = (&answer, lent.rounds.first_mut()) {
+    if let (Ok(answer), Some(count)) = (&answer, lent.numbers.first_mut()) {
         *count = answer.rounds;
     }
     (check_code(&answer), lent)
@@ -144,14 +147,14 @@ fn by_second(
 /// The library's code, and what it leaves of the memory.
 fn by_library(before: &Lent, check: impl FnOnce(&mut [u32], &mut [u32], &mut [u64]) -> u32) -> (u32, Lent) {
     let mut lent = before.clone();
-    let code = check(&mut lent.first, &mut lent.second, &mut lent.rounds);
+    let code = check(&mut lent.first, &mut lent.second, &mut lent.numbers);
     (code, lent)
 }
 
 fn same_check(library: &(u32, Lent), second: &(u32, Lent), case: &dyn Display) {
     let ((code, lent), (code_expected, expected)) = (library, second);
     assert_eq!(code, code_expected, "code of the library and of the second checker; {case}");
-    same("count of rounds", &lent.rounds, &expected.rounds, case);
+    same("numbers", &lent.numbers, &expected.numbers, case);
     same("first table", &lent.first, &expected.first, case);
     same("second table", &lent.second, &expected.second, case);
 }
@@ -336,7 +339,7 @@ pub fn page(
     sample: &dyn Display,
 ) -> Result<Vec<u8>, Refusal> {
     let case = format!("page, table of {} entries, output of {output} bytes, {sample}", table.len());
-    let output = unprinted_bytes(random, output);
+    let output = unwritten_bytes(random, output);
     let count = random.below(4);
     let numbers = dirty_numbers(random, count);
 
@@ -350,7 +353,7 @@ pub fn page(
     let (mut output, mut numbers) = (output, numbers);
     let found = library::page(&plan_lent, &table_lent, &mut output, &mut numbers);
 
-    assert_eq!(found, page_code(&expected), "code of the library and of the second checker; {case}");
+    assert_eq!(found, done_code(&expected), "code of the library and of the second checker; {case}");
     same("numbers", &numbers, &numbers_expected, &case);
     same("output", &output, &output_expected, &case);
     // A compiler may take it for granted that what is lent to be read stays.
@@ -361,9 +364,45 @@ pub fn page(
     Ok(output)
 }
 
-fn page_code(expected: &Result<usize, Refusal>) -> u32 {
+fn done_code(expected: &Result<usize, Refusal>) -> u32 {
     match expected {
         Ok(_) => library::DONE,
         Err(refusal) => library::refused(*refusal),
     }
+}
+
+/// Finds the rows that break a plan both ways, with so many marks lent, and
+/// compares the answer and all lent memory; returns the rows that remain, or the
+/// refusal of both.
+pub fn breaking_rows(
+    random: &mut Random,
+    plan: &[u8],
+    lengths: Lengths,
+    marks: usize,
+    sample: &dyn Display,
+) -> Result<Vec<usize>, Refusal> {
+    let case = format!("breaking rows, {marks} marks, {lengths:?}, {sample}");
+    let before = Lent::dirty(random, lengths);
+    let marks = unwritten_bytes(random, marks);
+
+    let (mut lent, mut marks_expected) = (before.clone(), marks.clone());
+    let answer = second::breaking_rows(plan, &mut lent.first, &mut lent.second, &mut marks_expected);
+    if let (Ok(remaining), Some(number)) = (&answer, lent.numbers.first_mut()) {
+        *number = *remaining as u64;
+    }
+    let expected = (done_code(&answer), lent);
+
+    let (plan_lent, mut marks) = (plan.to_vec(), marks);
+    let found = by_library(&before, |first, second, numbers| {
+        library::breaking_rows(&plan_lent, first, second, &mut marks, numbers)
+    });
+    same_check(&found, &expected, &case);
+    same("marks", &marks, &marks_expected, &case);
+    // A compiler may take it for granted that what is lent to be read stays.
+    same("plan", black_box(&plan_lent), plan, &case);
+    add(|calls| calls.breaking_rows += 1);
+
+    let remaining: Vec<usize> = (0..marks.len()).filter(|&row| marks[row] == 1).collect();
+    assert_eq!(remaining.len(), answer?, "rows marked and rows counted; {case}");
+    Ok(remaining)
 }

@@ -3,8 +3,9 @@
 pub mod devices;
 pub mod faults;
 pub mod listings;
+pub mod rows;
 
-use crate::second::{self, Edge, Ground, Link, Origin, Plan, Verdict, MOST_CELLS, MOST_SECONDS};
+use crate::second::{self, Edge, Ground, Link, Origin, Plan, Verdict, MOST_CELLS, MOST_EDGES, MOST_SECONDS};
 use std::{fmt, iter};
 
 // ---------------------------------------------------------------- random
@@ -145,9 +146,6 @@ pub struct Draft {
     pub links: Vec<Link>,
     pub edges: Vec<Edge>,
 }
-
-/// The most edges that a plan may have.
-const MOST_EDGES: usize = 128;
 
 /// The most points that a plan may have.
 const MOST_POINTS: usize = 32;

@@ -10,6 +10,7 @@ pub mod library;
 pub mod port;
 pub mod second;
 pub mod tally;
+pub mod trials;
 
 use std::fs;
 use std::path::{Path, PathBuf};

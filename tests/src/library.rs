@@ -6,7 +6,10 @@ pub mod header {
     include!(concat!(env!("OUT_DIR"), "/header.rs"));
 }
 
-use header::{sulgrach_check, sulgrach_check_classes, sulgrach_list, sulgrach_page, sulgrach_replay};
+use header::{
+    sulgrach_breaking_rows, sulgrach_check, sulgrach_check_classes, sulgrach_list, sulgrach_page,
+    sulgrach_replay,
+};
 
 // The types of the calls as they are relied on here. Types of functions must
 // agree exactly, so that a `const` too many or too few in the header does not
@@ -43,8 +46,26 @@ type List = unsafe extern "C" fn(
 ) -> u32;
 type Replay = unsafe extern "C" fn(*const u8, usize, *const u8, usize) -> u32;
 type Page = unsafe extern "C" fn(*const u8, usize, *const u32, usize, *mut u8, usize, *mut u64, usize) -> u32;
-const _: (Check, CheckClasses, List, Replay, Page) =
-    (sulgrach_check, sulgrach_check_classes, sulgrach_list, sulgrach_replay, sulgrach_page);
+type BreakingRows = unsafe extern "C" fn(
+    *const u8,
+    usize,
+    *mut u32,
+    usize,
+    *mut u32,
+    usize,
+    *mut u8,
+    usize,
+    *mut u64,
+    usize,
+) -> u32;
+const _: (Check, CheckClasses, List, Replay, Page, BreakingRows) = (
+    sulgrach_check,
+    sulgrach_check_classes,
+    sulgrach_list,
+    sulgrach_replay,
+    sulgrach_page,
+    sulgrach_breaking_rows,
+);
 
 pub const KEPT: u32 = header::SULGRACH_KEPT;
 pub const BROKEN: u32 = header::SULGRACH_BROKEN;
@@ -150,6 +171,32 @@ pub fn page(plan: &[u8], table: &[u32], out: &mut [u8], numbers: &mut [u64]) -> 
             table.len(),
             out.as_mut_ptr(),
             out.len(),
+            numbers.as_mut_ptr(),
+            numbers.len(),
+        )
+    }
+}
+
+/// The code of the answer; the number of rows that remain goes into
+/// `numbers[0]`.
+pub fn breaking_rows(
+    plan: &[u8],
+    first: &mut [u32],
+    second: &mut [u32],
+    rows: &mut [u8],
+    numbers: &mut [u64],
+) -> u32 {
+    // SAFETY: as for `check`.
+    unsafe {
+        sulgrach_breaking_rows(
+            plan.as_ptr(),
+            plan.len(),
+            first.as_mut_ptr(),
+            first.len(),
+            second.as_mut_ptr(),
+            second.len(),
+            rows.as_mut_ptr(),
+            rows.len(),
             numbers.as_mut_ptr(),
             numbers.len(),
         )

@@ -16,13 +16,16 @@ pub const EVERY_PLAN: u64 = 15_571_369_985;
 /// The most cells that a plan may have.
 pub const MOST_CELLS: usize = 16_384;
 
+/// The most edges that a plan may have.
+pub const MOST_EDGES: usize = 128;
+
 /// The most lines that a listing may have.
 pub const MOST_LINES: usize = 4_096;
 
 /// The most bytes that the program reads as a plan.
 pub const MOST_BYTES: usize = 800;
 
-/// The number of a refusal, 1 to 15.
+/// The number of a refusal, 1 to 16.
 pub type Refusal = u32;
 
 // ---------------------------------------------------------------- labels
@@ -104,6 +107,7 @@ pub struct Plan {
     pub observing: Vec<usize>,
     pub links: Vec<Link>,
     pub edges: Vec<Edge>,
+    /// That of the plan as it was read, also where edges have been left out.
     pub horizon: i64,
     /// Whether links add edges, as they do by 5/13; off only in plans to tell
     /// these edges' effect by.
@@ -127,6 +131,12 @@ impl Plan {
     /// The same, but links add no edges, as before 5/13.
     pub fn without_link_edges(&self) -> Plan {
         Plan { link_edges: false, ..self.clone() }
+    }
+
+    /// The same with just these of its edges, and with "the whole plan's horizon"
+    /// (6/13).
+    pub fn with_rows(&self, rows: &[usize]) -> Plan {
+        Plan { edges: rows.iter().map(|&row| self.edges[row]).collect(), ..self.clone() }
     }
 
     /// The link sets of one point: 2^k.
@@ -242,7 +252,8 @@ pub fn read(bytes: &[u8]) -> Result<Plan, Refusal> {
 
 /// "n 2 to 32, p and k 0 to 4, e 0 to 128, n × 2^k × 4^p at most 16,384."
 fn sizes_in_bounds(n: usize, p: usize, k: usize, e: usize) -> bool {
-    (2..=32).contains(&n) && p <= 4 && k <= 4 && e <= 128 && n * (1 << k) * (1 << (2 * p)) <= MOST_CELLS
+    let bounds = (2..=32).contains(&n) && p <= 4 && k <= 4 && e <= MOST_EDGES;
+    bounds && n * (1 << k) * (1 << (2 * p)) <= MOST_CELLS
 }
 
 /// Refusal 3: "observing point 0, ≥ n, or used twice".
@@ -304,13 +315,17 @@ fn edge_of(ends: &[u8], row: &[u8]) -> Edge {
     }
 }
 
-/// "M is the largest of all y and all −u with u < 0, or 0 if there are none.
-/// The horizon is n × M." "M and the horizon are unaffected" by the edges that
-/// links add (5/13).
-fn horizon(n: usize, links: &[Link], edges: &[Edge]) -> i64 {
+/// "The horizon is n × M."
+pub fn horizon(n: usize, links: &[Link], edges: &[Edge]) -> i64 {
+    n as i64 * largest_time(links, edges)
+}
+
+/// "M is the largest of all y and all −u with u < 0, or 0 if there are none."
+/// "M and the horizon are unaffected" by the edges that links add (5/13).
+fn largest_time(links: &[Link], edges: &[Edge]) -> i64 {
     let longest = links.iter().map(|link| link.most);
     let negative = edges.iter().filter(|edge| edge.weight < 0).map(|edge| -edge.weight);
-    n as i64 * longest.chain(negative).max().unwrap_or(0)
+    longest.chain(negative).max().unwrap_or(0)
 }
 
 // --------------------------------------------------- lines and six rules
@@ -608,6 +623,70 @@ fn narrower_than_class(link: &Link, class: u8, table: &[DeviceClass]) -> bool {
     }
     let DeviceClass { least, most } = table[usize::from(class) - 1];
     link.least > least || link.most < most
+}
+
+// ---------------------------------------------------------- the few rows
+
+/// "Demand 3's number of rounds" (6/13): cells × (horizon + M + 1) + 1.
+pub fn rounds_for(plan: &Plan) -> u64 {
+    let highest = plan.horizon + largest_time(&plan.links, &plan.edges);
+    plan.cells() as u64 * (highest as u64 + 1) + 1
+}
+
+/// "Every trial uses the whole plan's horizon and has demand 3's number of rounds
+/// for the whole plan." (6/13) What is tried is the plan with just these of its
+/// edge rows, from a table of zeros.
+pub fn trial(plan: &Plan, rows: &[usize]) -> Answer {
+    let answer = run(&plan.with_rows(rows), rounds_for(plan), |_, _| ());
+    assert_ne!(
+        answer.verdict,
+        Verdict::Spent,
+        "the rounds serve the whole plan, and rows {rows:?} of {plan:?}"
+    );
+    answer
+}
+
+/// "Try the edge rows in order, each left out if the rest is still broken."
+/// (6/13) The rest is what remains so far, without the row.
+pub fn rows_that_remain(in_order: &[usize], mut broken: impl FnMut(&[usize]) -> bool) -> Vec<usize> {
+    let mut remaining = in_order.to_vec();
+    for &row in in_order {
+        let rest: Vec<usize> = remaining.iter().copied().filter(|&other| other != row).collect();
+        if broken(&rest) {
+            remaining = rest;
+        }
+    }
+    remaining
+}
+
+/// The rows that break a plan, and how many: "mark each row 1 if it remains, else
+/// 0, later marks as they were. It refuses, after 1 to 6, with 16 a plan that is
+/// kept, and it leaves the marks untouched. A mark list shorter than the edges
+/// falls under 6. The tables end as a trial of the remaining rows leaves them,
+/// under 16 as one of the plan does." (6/13)
+pub fn breaking_rows(
+    bytes: &[u8],
+    first: &mut [u32],
+    second: &mut [u32],
+    marks: &mut [u8],
+) -> Result<usize, Refusal> {
+    let plan = read(bytes)?;
+    let cells = plan.cells();
+    if first.len() < cells || second.len() < cells || marks.len() < plan.edges.len() {
+        return Err(6);
+    }
+    let all: Vec<usize> = (0..plan.edges.len()).collect();
+    let broken = |rows: &[usize]| trial(&plan, rows).verdict == Verdict::Broken;
+    let remaining = broken(&all).then(|| rows_that_remain(&all, broken));
+
+    let left = trial(&plan, remaining.as_ref().unwrap_or(&all));
+    first[..cells].copy_from_slice(&left.table);
+    second[..cells].copy_from_slice(&left.table);
+    let remaining = remaining.ok_or(16_u32)?;
+    for row in all {
+        marks[row] = u8::from(remaining.contains(&row));
+    }
+    Ok(remaining.len())
 }
 
 // ----------------------------------------------------------- the listing

@@ -2,7 +2,9 @@
 //! the library is called by in every other test.
 
 use sulgrach_tests::library::header::{CALLS, CONSTANTS, SULGRACH_STACK};
-use sulgrach_tests::second::{listing_bytes, page_bytes, EVERY_PLAN, MOST_CELLS, MOST_LINES, MOST_SECONDS};
+use sulgrach_tests::second::{
+    listing_bytes, page_bytes, EVERY_PLAN, MOST_CELLS, MOST_EDGES, MOST_LINES, MOST_SECONDS,
+};
 
 #[test]
 fn every_constant() {
@@ -16,6 +18,7 @@ fn every_constant() {
         ("SULGRACH_REFUSED", 100),
         ("SULGRACH_SECONDS", MOST_SECONDS as u64),
         ("SULGRACH_CELLS", MOST_CELLS as u64),
+        ("SULGRACH_EDGES", MOST_EDGES as u64),
         ("SULGRACH_ROUNDS", EVERY_PLAN),
         ("SULGRACH_LISTING", listing_bytes(MOST_LINES) as u64),
         // A line for every cell.
@@ -28,7 +31,13 @@ fn every_constant() {
 
 #[test]
 fn every_call() {
-    let expected =
-        ["sulgrach_check", "sulgrach_check_classes", "sulgrach_list", "sulgrach_replay", "sulgrach_page"];
+    let expected = [
+        "sulgrach_check",
+        "sulgrach_check_classes",
+        "sulgrach_list",
+        "sulgrach_replay",
+        "sulgrach_page",
+        "sulgrach_breaking_rows",
+    ];
     assert_eq!(CALLS, expected);
 }

@@ -6,7 +6,7 @@ use sulgrach_tests::generate::faults::{faulty, faulty_many_times, sound, FAULTS}
 use sulgrach_tests::generate::{hex, samples, Class, Random};
 use sulgrach_tests::library;
 use sulgrach_tests::second::{self, Verdict, EVERY_PLAN, MOST_CELLS};
-use sulgrach_tests::times;
+use sulgrach_tests::{times, trials};
 
 /// A listing that any accepted plan's replay reads and none accepts.
 const SOME_LISTING: [u8; 16] = [0, 1, 0, 0, 0, 1, 0, 0, 0, 0, 0, 0, 0, 0, 0, 0];
@@ -129,7 +129,7 @@ fn bounds_that_are_still_accepted() {
     compare::print_calls("bounds_that_are_still_accepted");
 }
 
-/// All five calls on a plan that may be refused. An accepted one is only run
+/// All six calls on a plan that may be refused. An accepted one is only run
 /// as far as it takes to see that both go on with it.
 fn every_call(random: &mut Random, plan: &[u8], case: &str) {
     let cells = random.pick(&[0, 20, MOST_CELLS, MOST_CELLS]);
@@ -148,4 +148,18 @@ fn every_call(random: &mut Random, plan: &[u8], case: &str) {
     let links = plan.get(2).map_or(0, |&size| usize::from(size));
     let classes = vec![random.pick(&[0, 0, 5, 7]); links];
     compare::check_classes(random, plan, &classes, lengths, limit, &case);
+    breaking_rows(random, plan, lengths, case);
+}
+
+/// There is no limit to the rounds of this call: a plan whose trials take more than
+/// a few is lent too few marks for it, or too short a table.
+fn breaking_rows(random: &mut Random, plan: &[u8], mut lengths: Lengths, case: &str) {
+    let mut marks = random.pick(&[0, 1, 128, 300]);
+    if let Ok(accepted) = second::read(plan) {
+        if trials::left(&accepted, 8).is_none() {
+            marks = accepted.edges.len().saturating_sub(1);
+            lengths.first = if marks == 0 { accepted.cells() - 1 } else { lengths.first };
+        }
+    }
+    let _ = compare::breaking_rows(random, plan, lengths, marks, &case);
 }

@@ -5,10 +5,11 @@ use std::fs;
 use std::path::{Path, PathBuf};
 use std::process::Command;
 use sulgrach_tests::generate::faults::{faulty, FAULTS};
+use sulgrach_tests::generate::rows::wide;
 use sulgrach_tests::generate::{samples, slow_cycle, Class, Random};
 use sulgrach_tests::library::header::SULGRACH_STACK;
 use sulgrach_tests::library::{refused, BROKEN, DONE, KEPT, SPENT};
-use sulgrach_tests::{plan_files, second};
+use sulgrach_tests::{plan_files, second, trials};
 
 /// Enough rounds for the plans of the repository, and few enough for plans of
 /// many cells.
@@ -52,12 +53,33 @@ fn plans() -> Vec<PathBuf> {
         .filter_map(|plan| second::read(plan).ok())
         .filter(|plan| plan.cells() > 15_000 && !plan.links.is_empty() && !plan.observing.is_empty());
     assert!(wide.count() >= 10);
-    for (number, plan) in plans.iter().enumerate() {
-        let file = Path::new(env!("CARGO_TARGET_TMPDIR")).join(format!("stack-{number}.plan"));
-        fs::write(&file, plan).expect("a plan is written");
-        files.push(file);
-    }
+    files.extend(written("stack", &plans));
     files
+}
+
+/// Files of plans whose trials take few rounds: those of the repository, generated
+/// ones, wide ones with links and facts, and refused ones.
+fn plans_for_trials() -> Vec<PathBuf> {
+    const ROUNDS: u64 = 1_000;
+    let generated = samples(Class::Decisive, 5_100_000, 40).map(|sample| sample.plan);
+    let mut plans: Vec<Vec<u8>> = generated
+        .filter(|plan| second::read(plan).is_ok_and(|plan| trials::left(&plan, ROUNDS).is_some()))
+        .collect();
+    assert!(plans.len() >= 30);
+    plans.extend((0..8).map(|seed| wide(&mut Random::new(seed), 4, seed % 2 == 0).0.bytes()));
+    plans.extend(FAULTS.iter().map(|fault| faulty(&mut Random::new(1), fault)));
+    plan_files().into_iter().chain(written("trials", &plans)).collect()
+}
+
+/// Writes the plans to files of this name and their number.
+fn written(name: &str, plans: &[Vec<u8>]) -> Vec<PathBuf> {
+    let folder = Path::new(env!("CARGO_TARGET_TMPDIR"));
+    let write = |(number, plan): (usize, &Vec<u8>)| {
+        let file = folder.join(format!("{name}-{number}.plan"));
+        fs::write(&file, plan).expect("a plan is written");
+        file
+    };
+    plans.iter().enumerate().map(write).collect()
 }
 
 /// Codes and bytes of stack of one call, for each plan.
@@ -74,16 +96,17 @@ fn measure(program: &Path, call: &str, files: &[PathBuf]) -> Vec<(u32, u32)> {
 
 #[test]
 fn each_call_takes_less_than_the_header_says() {
-    let files = plans();
+    let (plans, plans_for_trials) = (plans(), plans_for_trials());
     for binding in ["now", "lazy"] {
         let program = compile(binding);
-        for call in
-            ["check", "classes0", "classes3", "classes7", "list", "replay", "page", "page12", "page13"]
-        {
-            let measured = measure(&program, call, &files);
+        for call in [
+            "check", "classes0", "classes3", "classes7", "list", "replay", "page", "page12", "page13", "rows",
+        ] {
+            let files = if call == "rows" { &plans_for_trials } else { &plans };
+            let measured = measure(&program, call, files);
             let most = measured.iter().map(|&(_, used)| used).max().expect("some plans");
             println!("{call}, memset bound {binding}: at most {most} bytes of stack, {} plans", files.len());
-            for ((code, used), file) in measured.iter().zip(&files) {
+            for ((code, used), file) in measured.iter().zip(files) {
                 // A call takes some; none seen would be a fault of the measurement.
                 assert!(*used > 100, "{call}, code {code}: only {used} bytes, {}", file.display());
                 assert!(*used < SULGRACH_STACK, "{call}, code {code}: {used} bytes, {}", file.display());
@@ -97,7 +120,8 @@ fn each_call_takes_less_than_the_header_says() {
                 "replay" => vec![0, 1, 5, 8],
                 "page" => vec![DONE, refused(1), refused(5)],
                 "page12" => vec![refused(5), refused(12)],
-                _ => vec![refused(5), refused(13)],
+                "page13" => vec![refused(5), refused(13)],
+                _ => vec![DONE, refused(1), refused(5), refused(16)],
             };
             for code in expected {
                 assert!(

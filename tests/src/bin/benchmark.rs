@@ -1,5 +1,6 @@
 //! Times the check over the C interface, beside other checkers, on fixed
-//! plans. Not part of the gate.
+//! plans; and beside the check the call that finds the rows that break a plan.
+//! Not part of the gate.
 //!
 //! All checkers take turns in one run, so that what else the machine does
 //! falls on all of them alike; the shortest time of each counts. With
@@ -8,10 +9,11 @@
 use std::fs;
 use std::path::Path;
 use std::time::{Duration, Instant};
-use sulgrach_tests::generate::{plan_before_lengthening, slow_cycle, typical, Class};
+use sulgrach_tests::generate::rows::{kept, with_contradictions};
+use sulgrach_tests::generate::{plan_before_lengthening, slow_cycle, typical, Class, Random};
 use sulgrach_tests::library;
 use sulgrach_tests::port;
-use sulgrach_tests::second::{self, Verdict, EVERY_PLAN};
+use sulgrach_tests::second::{self, Verdict, EVERY_PLAN, MOST_EDGES};
 
 /// Code and rounds of a check; the tables are left as the check leaves them.
 type Check = fn(plan: &[u8], first: &mut [u32], second: &mut [u32], limit: u64) -> (u32, u64);
@@ -33,6 +35,19 @@ const CHECKERS: &[Checker] = &[
     Checker { name: "port", check: port::check, most_rounds: EVERY_PLAN, agrees: true },
     Checker { name: "second", check: check_second, most_rounds: 20_000, agrees: true },
 ];
+
+/// The call that finds the rows that break a plan, after the check that it is
+/// measured against. In place of rounds it has the number of rows that remain.
+const BREAKING_ROWS: &[Checker] = &[
+    Checker { name: "check", check: check_library, most_rounds: EVERY_PLAN, agrees: true },
+    Checker { name: "breaking rows", check: breaking_rows, most_rounds: EVERY_PLAN, agrees: false },
+];
+
+fn breaking_rows(plan: &[u8], first: &mut [u32], second: &mut [u32], _limit: u64) -> (u32, u64) {
+    let mut remaining = [0];
+    let code = library::breaking_rows(plan, first, second, &mut [0; MOST_EDGES], &mut remaining);
+    (code, remaining[0])
+}
 
 fn check_library(plan: &[u8], first: &mut [u32], second: &mut [u32], limit: u64) -> (u32, u64) {
     let mut rounds = [0];
@@ -110,17 +125,41 @@ fn main() {
     let dense = [1, 3, 18, 37]
         .map(|seed| Case::new(format!("seed {seed}"), plan_before_lengthening(Class::Dense, seed), 5));
     run("dense: near 16,384 cells, at most 5 rounds", dense.into_iter());
-    let slow = [
-        Case::new("5 points", slow_cycle(5, 2, 10_000, false), EVERY_PLAN),
-        Case::new("32 points", slow_cycle(32, 2, 100_000, false), EVERY_PLAN),
-        Case::new("6 points, a link and a proposition", slow_cycle(6, 3, 50_000, true), EVERY_PLAN),
-        Case::new("32 points, 16 a turn", slow_cycle(32, 16, 1_000_000, false), EVERY_PLAN),
-    ];
-    run("slow cycles", slow.into_iter());
+    run("slow cycles", slow_cycles().into_iter());
     run(
         "the ten bench plans",
         (1..=10).map(|number| Case::new(format!("c{number}"), bench_plan(number), EVERY_PLAN)),
     );
+    breaking_rows_of_every_kind();
+}
+
+/// Broken plans alone.
+fn breaking_rows_of_every_kind() {
+    let broken = |name: &str, seed: u64, plan| Case::new(format!("{name}, seed {seed}"), plan, EVERY_PLAN);
+    let typical = [1, 3, 5, 7, 9, 11].map(|seed| broken("typical", seed, typical(seed)));
+    let of_ninety = [1, 2].map(|seed| broken("two rows of ninety", seed, two_rows_of_ninety(seed)));
+    run_breaking_rows("breaking rows, typical", typical.into_iter().chain(of_ninety));
+    // Seeds whose trials end soon.
+    let wide = [0, 8, 17, 22, 23, 28]
+        .map(|seed| broken("near 16,384 cells", seed, plan_before_lengthening(Class::Dense, seed)));
+    run_breaking_rows("breaking rows, wide", wide.into_iter());
+    run_breaking_rows("breaking rows, slow cycles", slow_cycles().into_iter());
+}
+
+/// Rows that can be kept, and two that contradict each other.
+fn two_rows_of_ninety(seed: u64) -> Vec<u8> {
+    let mut random = Random::new(seed);
+    let kept = kept(&mut random, 12, 1, 1, 88);
+    with_contradictions(&mut random, kept, &[1]).0.bytes()
+}
+
+fn slow_cycles() -> [Case; 4] {
+    [
+        Case::new("5 points", slow_cycle(5, 2, 10_000, false), EVERY_PLAN),
+        Case::new("32 points", slow_cycle(32, 2, 100_000, false), EVERY_PLAN),
+        Case::new("6 points, a link and a proposition", slow_cycle(6, 3, 50_000, true), EVERY_PLAN),
+        Case::new("32 points, 16 a turn", slow_cycle(32, 16, 1_000_000, false), EVERY_PLAN),
+    ]
 }
 
 fn bench_plan(number: u32) -> Vec<u8> {
@@ -133,7 +172,7 @@ fn run(class: &str, cases: impl Iterator<Item = Case>) {
     let mut ratios = vec![Vec::new(); CHECKERS.len()];
     for case in cases {
         let cells = second::read(&case.plan).expect("an accepted plan").cells();
-        let measures = measure_all(&case, &mut vec![0; cells], &mut vec![0; cells]);
+        let measures = measure_all(CHECKERS, &case, &mut vec![0; cells], &mut vec![0; cells]);
         report(&case, cells, &measures);
         for (ratios, measure) in ratios.iter_mut().zip(&measures) {
             ratios.push(times(measure, &measures[0]));
@@ -146,6 +185,33 @@ fn run(class: &str, cases: impl Iterator<Item = Case>) {
             geometric_mean(ratios)
         );
     }
+    println!();
+}
+
+/// Times the call beside one check of the same plan.
+fn run_breaking_rows(class: &str, cases: impl Iterator<Item = Case>) {
+    println!("{class}");
+    let mut ratios = Vec::new();
+    for case in cases {
+        let plan = second::read(&case.plan).expect("an accepted plan");
+        let [mut first, mut second] = [(); 2].map(|()| vec![0; plan.cells()]);
+        let measures = measure_all(BREAKING_ROWS, &case, &mut first, &mut second);
+        let [check, rows] = &measures[..] else { unreachable!("a check and the call") };
+        assert_eq!((check.code, rows.code), (library::BROKEN, library::DONE), "{}", case.name);
+        let ratio = rows.shortest.as_secs_f64() / check.shortest.as_secs_f64();
+        println!(
+            "  {}: {} cells, broken {}, {} rows, {} remain; {} a check, {} the rows, {ratio:.1} times the check's",
+            case.name,
+            plan.cells(),
+            check.rounds,
+            plan.edges.len(),
+            rows.rounds,
+            time(check.shortest.as_secs_f64()),
+            time(rows.shortest.as_secs_f64()),
+        );
+        ratios.push(ratio);
+    }
+    println!("  {:.1} times the time of one check, geometric mean", geometric_mean(&ratios));
     println!();
 }
 
@@ -162,11 +228,11 @@ struct Measure {
 }
 
 /// Lets all checkers take turns, each turn long enough to be timed.
-fn measure_all(case: &Case, first: &mut [u32], second: &mut [u32]) -> Vec<Measure> {
+fn measure_all(checkers: &[Checker], case: &Case, first: &mut [u32], second: &mut [u32]) -> Vec<Measure> {
     const TURNS: usize = 5;
     let mut repeats = Vec::new();
     let mut measures = Vec::new();
-    for checker in CHECKERS {
+    for checker in checkers {
         let limit = case.limit.min(checker.most_rounds);
         let started = Instant::now();
         let (code, rounds) = (checker.check)(&case.plan, first, second, limit);
@@ -177,7 +243,7 @@ fn measure_all(case: &Case, first: &mut [u32], second: &mut [u32]) -> Vec<Measur
         measures.push(Measure { code, rounds, limit, shortest });
     }
     for _ in 0..TURNS {
-        for ((checker, measure), &repeats) in CHECKERS.iter().zip(&mut measures).zip(&repeats) {
+        for ((checker, measure), &repeats) in checkers.iter().zip(&mut measures).zip(&repeats) {
             let started = Instant::now();
             for _ in 0..repeats {
                 (checker.check)(&case.plan, first, second, measure.limit);
