@@ -26,7 +26,7 @@ use Rattle.minimal_rows.specs.BreakingRows.{rows, refused, rowsTooShort,
 use Rattle.minimal_rows.specs.AfterBreakingRows.{AfterBreakingRows}
 use Rattle.minimal_rows.specs.Reducing.{ReduceLent, RowsLeft}
 use Rattle.minimal_rows.proofs.TrialLaws.{trial-means, whole-outcome, whole-table, whole-kept, whole-broken}
-use Rattle.minimal_rows.proofs.ProcedureLaws.{tried-length, breaking-minimal}
+use Rattle.minimal_rows.proofs.ProcedureLaws.{tried-length, breaking-minimal, links-alone}
 
 -- ---- by the number of the refusal
 module _ (bs F G R : List ℕ) where
@@ -105,6 +105,7 @@ module _ (bs : List ℕ) (first second marks : Moments) where
         second-is = g ∙ table (second .entry);
         marks-are = m ∙ refused-marks bs (first .entry) (second .entry) (marks .entry) n e ne;
         minimal = λ x. absurd x;
+        links-alone = λ x. absurd x;
         trials-mean = trial-means bs;
       }
 
@@ -135,6 +136,7 @@ module _ (bs : List ℕ) (first second marks : Moments) where
           second-is = g ∙ left (second .entry);
           marks-are = m ∙ refused-marks bs (first .entry) (second .entry) (marks .entry) 16 e (λ q. omega arith);
           minimal = λ x. absurd x;
+          links-alone = λ x. absurd x;
           trials-mean = trial-means bs;
         }
 
@@ -150,6 +152,7 @@ module _ (bs : List ℕ) (first second marks : Moments) where
           second-is = left .second-is ∙ rows-table bs (first .entry) (second .entry) (marks .entry) e (second .entry);
           marks-are = left .marks-are ∙ rows-marks bs (first .entry) (second .entry) (marks .entry) e;
           minimal = λ x. rw (left .marks-are, take-at (breakingMarks P) (drop (P .edges) (marks .entry)) (P .edges) (tried-length P (P .edges))) (breaking-minimal bs a whole);
+          links-alone = λ x none. ap rows (left .rows-are ∙ links-alone bs a none);
           trials-mean = trial-means bs;
         }
 

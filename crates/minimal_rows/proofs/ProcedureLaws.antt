@@ -4,17 +4,19 @@ use mathlib.Core.Bool.{Bool, true, false, cond, true≢false}
 use mathlib.Core.Logic.{_≢_}
 use mathlib.Core.List.{List}
 use Prim.Native.Nat.{ℕ, zero, suc, _≤_, _<_}
-use native.Mathlib.Decide.{ℕ-discrete}
+use native.Mathlib.Decide.{ℕ-discrete, decLt}
 use native.Mathlib.Omega.{arith}
 use lib.ListN.{length, getD, set, length-set, length-replicate, getD-replicate}
 use lib.Seq.{getD-set-same, getD-set-other}
 use Rattle.plan.specs.Plan.{Plan}
 use Rattle.plan.specs.Layout.{planOf}
 use Rattle.plan.specs.Refusal.{Accepted}
+use Rattle.plan_rows.specs.Rows.{marked}
+use Rattle.plan_rows.proofs.Marked.{marked-in}
 use Rattle.rounds.specs.Meaning.{IsKept, IsBroken}
-use Rattle.minimal_rows.specs.Trials.{trialOutcome, isBroken, allRows, tryRow, triedTo, breakingMarks}
+use Rattle.minimal_rows.specs.Trials.{trialOutcome, isBroken, allRows, noRows, tryRow, triedTo, breakingMarks}
 use Rattle.minimal_rows.specs.AfterBreakingRows.{Minimal}
-use Rattle.minimal_rows.proofs.TrialLaws.{broken-is, kept-not-broken, trial-verdict, trial-means, kept-panel, more-broken}
+use Rattle.minimal_rows.proofs.TrialLaws.{broken-is, is-broken, kept-not-broken, trial-verdict, trial-means, kept-panel, more-broken}
 
 -- each of the first n rows that has mark 1 in ms has it in ns
 abbrev pub Fewer : ℕ → List ℕ → List ℕ → Type 0
@@ -138,3 +140,22 @@ module _ (bs : List ℕ) (accepted : Accepted bs) where
 
       needed : (i : ℕ) → i < P .edges → getD (breakingMarks P) i 0 ≡ 1 → IsKept (trialOutcome P (set (breakingMarks P) i 0))
       needed i h e = kept-not-broken (trialOutcome P (set (breakingMarks P) i 0)) (trial-verdict bs accepted (set (breakingMarks P) i 0) (sized i)) (needed-now i h e)
+
+  -- where the links alone are broken no row is needed
+  pub links-alone : IsBroken (trialOutcome P (noRows P)) → length (marked (breakingMarks P)) ≡ 0
+  links-alone b = go (decLt 0 (length (marked (breakingMarks P))))
+    where
+      sized : (i : ℕ) → length (set (breakingMarks P) i 0) ≡ P .edges
+      sized i = length-set (breakingMarks P) i 0 ∙ tried-length P (P .edges)
+
+      still : (i : ℕ) → isBroken (trialOutcome P (set (breakingMarks P) i 0)) ≡ true
+      still i =
+          more-broken bs accepted (noRows P) (set (breakingMarks P) i 0) (length-replicate (P .edges) 0) (sized i)
+          (λ j h e. absurd (omega (arith, e, getD-replicate {A = ℕ} (P .edges) j 0 0 h))) (is-broken (trialOutcome P (noRows P)) b)
+
+      go : Dec (0 < length (marked (breakingMarks P))) → length (marked (breakingMarks P)) ≡ 0
+      go (yes h) =
+          let r = marked-in (breakingMarks P) 0 h in
+          let i = getD (marked (breakingMarks P)) 0 0 in
+          absurd (true≢false (sym (still i) ∙ needed-now i (omega (arith, r .0, tried-length P (P .edges))) (r .1)))
+      go (no h) = omega arith

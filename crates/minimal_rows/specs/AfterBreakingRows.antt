@@ -9,7 +9,7 @@ use Rattle.plan.specs.Refusal.{Accepted}
 use Rattle.rules_panel.specs.Dramas.{AnyDuration}
 use Rattle.rules_panel.specs.Strategies.{Panel, NoPanel}
 use Rattle.rounds.specs.Meaning.{IsKept, IsBroken, IsSpent, enoughRounds, Meaning}
-use Rattle.minimal_rows.specs.Trials.{remaining, trialOutcome, trialTable}
+use Rattle.minimal_rows.specs.Trials.{remaining, trialOutcome, trialTable, noRows}
 use Rattle.minimal_rows.specs.BreakingRows.{RowsOutcome, rows, refused, rowsOutcome, rowsMarks, rowsTable}
 
 abbrev pub IsRows : RowsOutcome → Type 0
@@ -35,4 +35,5 @@ pub record AfterBreakingRows (plan : List ℕ) (first second marks : Moments) (o
   pub second-is : second .exit ≡ rowsTable plan (first .entry) (second .entry) (marks .entry) (second .entry)
   pub marks-are : marks .exit ≡ rowsMarks plan (first .entry) (second .entry) (marks .entry)
   pub minimal : IsRows o → Minimal plan (take (planOf plan .edges) (marks .exit))
+  pub links-alone : IsRows o → IsBroken (trialOutcome (planOf plan) (noRows (planOf plan))) → o ≡ rows 0
   pub trials-mean : Accepted plan → (ms : List ℕ) → length ms ≡ planOf plan .edges → TrialsMean plan ms

@@ -48,3 +48,7 @@ triedTo P (suc n) = tryRow P n (triedTo P n)
 -- 21.4: once all have
 abbrev pub breakingMarks : Plan → List ℕ
 breakingMarks P = triedTo P (P .edges)
+
+-- 21.8: no row remains: the links alone
+abbrev pub noRows : Plan → List ℕ
+noRows P = replicate (P .edges) 0

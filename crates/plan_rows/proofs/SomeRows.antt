@@ -6,7 +6,7 @@ use lib.ListN.{length, getD}
 use Rattle.plan.specs.Plan.{Plan}
 use Rattle.plan.proofs.Ranges.{WellFormed}
 use Rattle.plan.proofs.Fewer.{FewerRows}
-use Rattle.plan_rows.specs.Rows.{withRows}
+use Rattle.plan_rows.specs.Rows.{withEdges, withRows}
 use Rattle.plan_rows.specs.RowBytes.{RowsIn}
 
 pub some-well-formed : {P : Plan} → WellFormed P → (rows : List ℕ) → RowsIn P rows → WellFormed (withRows P rows)
@@ -28,29 +28,7 @@ some-well-formed wf rows within = record {
   finish-observes-none = wf .finish-observes-none;
 }
 
--- the plan with n rows, of which row i is row f i of P
-abbrev rowsBy : Plan → ℕ → (ℕ → ℕ) → Plan
-rowsBy P n f =
-    record {
-      points = P .points;
-      propositions = P .propositions;
-      links = P .links;
-      edges = n;
-      observer = P .observer;
-      activation = P .activation;
-      finish = P .finish;
-      least = P .least;
-      most = P .most;
-      from = λ i. P .from (f i);
-      to = λ i. P .to (f i);
-      up = λ i. P .up (f i);
-      down = λ i. P .down (f i);
-      label = λ i. P .label (f i);
-      largest = P .largest;
-      horizon = P .horizon;
-    }
-
-fewer-by : (P : Plan) (m n : ℕ) (f g : ℕ → ℕ) → ((i : ℕ) → i < m → (j : ℕ) × (j < n) × (g j ≡ f i)) → FewerRows (rowsBy P m f) (rowsBy P n g)
+fewer-by : (P : Plan) (m n : ℕ) (f g : ℕ → ℕ) → ((i : ℕ) → i < m → (j : ℕ) × (j < n) × (g j ≡ f i)) → FewerRows (withEdges P m f) (withEdges P n g)
 fewer-by P m n f g among = record {
   points-are = refl;
   propositions-are = refl;
