@@ -18,16 +18,30 @@
  *     SULGRACH_SPENT             2   the limit was too small to tell
  *     SULGRACH_REFUSED + N   100+N   turned down for the reason N
  *
- * Those of sulgrach_page and sulgrach_breaking_rows:
+ * Those of sulgrach_page, sulgrach_breaking_rows, sulgrach_with_labels and sulgrach_without_labels:
  *
- *     SULGRACH_DONE              0   the page is in the output; the rows are marked
+ *     SULGRACH_DONE              0   the page or the plan is in the output; the rows are marked
  *     SULGRACH_REFUSED + N   100+N   turned down for the reason N
  *
- * The reasons; 1 to 7 are judged in the order: under 4 bytes, 2, length, 3, 4, 5, 6, 7; those of sulgrach_check_classes
- * in the order: under 4 bytes, 2, length, 3, 4, 5, 14, 15, 6; those of sulgrach_page in the order: under 4 bytes, 2,
- * length, 3, 4, 5, 6, 12, 13; those of sulgrach_breaking_rows in the order: under 4 bytes, 2, length, 3, 4, 5, 6, 16.
+ * The two forms of a plan. A plan may carry a label for each of its points, n bytes after the observing points: the output
+ * at that point exists only where the label's answers are given. Its length tells that it does: 4 + p + 6(k + e) bytes
+ * without labels, 4 + p + n + 6(k + e) with them, for n points, p facts, k links and e edges. Every call but the two
+ * conversions reads both forms. The labels must fit the edges and links, or the plan is refused with 18; a plan that is not
+ * refused gets the same answer with them as without them, to the cell.
  *
- *      1   the plan has under 4 bytes, or a length other than its sizes ask for
+ * The reasons. Those of the plan are judged first, in the order: under 4 bytes, 2, length, 3, 17, 4, 5, 18. Then come
+ *
+ *     6                  sulgrach_check
+ *     6, 7               sulgrach_list
+ *     14, 15, 6          sulgrach_check_classes
+ *     6, 12, 13          sulgrach_page
+ *     6, 16              sulgrach_breaking_rows
+ *     7                  sulgrach_with_labels
+ *     19, 7              sulgrach_without_labels
+ *     8, then 9 and 10 line by line, 11     sulgrach_replay
+ *
+ *      1   the plan has under 4 bytes, or a length that is none of the two that its sizes ask for; a conversion takes only
+ *          the one that it starts from
  *      2   a size, or the number of cells, is out of bounds
  *      3   an observing point is the first alarm, no point of the plan, or used twice
  *      4   a link has an end that is no point, equal ends, an end that is the first alarm, observing or used twice, or
@@ -36,6 +50,7 @@
  *          or a last byte that is not 0
  *      6   a lent table is shorter than the plan's cells, or the marks are fewer than its edges
  *      7   the listing has over 4,096 lines or is longer than the output      (sulgrach_list)
+ *          the output is too short for the plan                               (the conversions)
  *      8   the bytes are not laid out as a listing of 1 to 4,096 lines        (sulgrach_replay)
  *      9   a line's point, set, label, rule, row or parent is out of range    (sulgrach_replay)
  *     10   a line is not what its rule gives                                  (sulgrach_replay)
@@ -45,6 +60,12 @@
  *     14   there are not as many classes as links, or a class is above 6      (sulgrach_check_classes)
  *     15   a link is narrower than its class                                  (sulgrach_check_classes)
  *     16   the plan is kept                                                   (sulgrach_breaking_rows)
+ *     17   a point's label is not plain, speaks of a fact that the plan does not have, or is not 0 at the first alarm
+ *     18   the labels of points do not fit: an edge's label lacks an answer of the label of one of its ends, or of the
+ *          observing point of a fact that it names; a point's label lacks one of the observing point of a fact that it
+ *          names, or no edge of negative weight with exactly that label runs from the point to that observing point; or
+ *          the two ends of a link have different labels
+ *     19   a point has a label that is not 0                                  (sulgrach_without_labels)
  */
 #ifndef SULGRACH_H
 #define SULGRACH_H
@@ -66,6 +87,9 @@ extern "C" {
 #define SULGRACH_SPENT 2
 #define SULGRACH_REFUSED 100
 
+/* No accepted plan is longer, in bytes, so an output of this length is never too short for a conversion. */
+#define SULGRACH_PLAN 832
+
 /* No time of an accepted plan is longer, in seconds. */
 #define SULGRACH_SECONDS 28800
 
@@ -84,7 +108,7 @@ extern "C" {
 /* No page is longer, in bytes. */
 #define SULGRACH_PAGE 360448
 
-/* Each call takes less stack than this, in bytes. Measured, not proved: a call itself took up to 3,208, and the first of
+/* Each call takes less stack than this, in bytes. Measured, not proved: a call itself took up to 3,256, and the first of
  * a program up to 4,616 where the dynamic linker looks for memset only then (-z lazy). */
 #define SULGRACH_STACK 8192
 
@@ -130,7 +154,7 @@ uint32_t sulgrach_check_classes(
  *     broken                the same; numbers[1], if there is one: the listing's length in bytes; so many bytes of `out`:
  *                           the listing, which sulgrach_replay accepts; the plan's cells of `index`: see below
  *     refused, 7            `first` and `second`, as the check writes them
- *     refused, 1 to 6       nothing, also where only `index` is too short
+ *     refused, any other    nothing, also where only `index` is too short
  *
  * Nothing else is written: no entry of the three tables past the plan's cells, none of `numbers` past the second, and no
  * byte of `out` past the listing.
@@ -147,7 +171,7 @@ uint32_t sulgrach_list(
     uint64_t *numbers, size_t numbers_length);
 
 /* Replay of a listing: 0 where its lines derive from the plan that the first alarm waits for itself, so that no panel can
- * keep it; else the reason, as N and not as 100+N: 1 to 5 for the plan, 8 to 11 for the listing. Nothing is written. */
+ * keep it; else the reason, as N and not as 100+N: 1 to 5, 17 and 18 for the plan, 8 to 11 for the listing. Nothing is written. */
 uint32_t sulgrach_replay(
     const uint8_t *plan, size_t plan_length,
     const uint8_t *listing, size_t listing_length);
@@ -188,7 +212,7 @@ uint32_t sulgrach_page(
  *                           numbers[0], if there is one: how many rows remain;
  *                           the plan's cells of `first` and of `second`: both hold the waits of a trial of these rows
  *     refused, 16           the plan's cells of `first` and of `second`: both hold the waits of the whole plan
- *     refused, 1 to 6       nothing, also where only `rows` is too short
+ *     refused, any other    nothing, also where only `rows` is too short
  *
  * Entries of the tables past the plan's cells are never written, nor are marks past the edges or entries of `numbers`
  * past the first. */
@@ -197,6 +221,24 @@ uint32_t sulgrach_breaking_rows(
     uint32_t *first, size_t first_length,
     uint32_t *second, size_t second_length,
     uint8_t *rows, size_t rows_length,
+    uint64_t *numbers, size_t numbers_length);
+
+/* A plan from the form without labels on points to the form with them, all 0, and from the form with them, where all are
+ * 0, to the form without. There and back gives the same bytes, both ways. The answer is a code. What is written:
+ *
+ *     done                  the plan in the other form, from the start of `out` on;
+ *                           numbers[0], if there is one: its length in bytes
+ *     refused               nothing
+ *
+ * Bytes of `out` past the plan are never written, nor are entries of `numbers` past the first. */
+uint32_t sulgrach_with_labels(
+    const uint8_t *plan, size_t plan_length,
+    uint8_t *out, size_t out_length,
+    uint64_t *numbers, size_t numbers_length);
+
+uint32_t sulgrach_without_labels(
+    const uint8_t *plan, size_t plan_length,
+    uint8_t *out, size_t out_length,
     uint64_t *numbers, size_t numbers_length);
 
 #ifdef __cplusplus

@@ -1,6 +1,6 @@
 /* Prints how much stack a call of the library takes.
  *
- *     stack check|classes0|classes3|classes7|list|replay|page|page12|page13|rows LIMIT PLAN...
+ *     stack check|classes0|classes3|classes7|list|replay|page|page12|page13|rows|with|with7|without|without7 LIMIT PLAN...
  *
  * The call runs on a stack of its own, filled with a pattern beforehand; afterwards the pattern is gone as far down as
  * the call went. For each plan a line: the call's code, bytes of stack. The caller's arguments and its way into the call
@@ -17,8 +17,8 @@
 static uint64_t numbers[2], limit;
 static uint32_t first[SULGRACH_CELLS], second[SULGRACH_CELLS], code;
 static uint16_t lines[SULGRACH_CELLS];
-static uint8_t plan[801], classes[255], out[SULGRACH_LISTING], text[SULGRACH_PAGE], marks[SULGRACH_EDGES], stack[STACK];
-static size_t length, text_length;
+static uint8_t plan[SULGRACH_PLAN + 1], classes[255], out[SULGRACH_LISTING], text[SULGRACH_PAGE], marks[SULGRACH_EDGES], stack[STACK];
+static size_t length, text_length, out_length;
 static ucontext_t outside, inside;
 
 static void check(void) {
@@ -49,6 +49,14 @@ static void page(void) {
 static void rows(void) {
     code = sulgrach_breaking_rows(plan, length, first, SULGRACH_CELLS, second, SULGRACH_CELLS, marks, sizeof marks,
         numbers, 2);
+}
+
+static void with_labels(void) {
+    code = sulgrach_with_labels(plan, length, out, out_length, numbers, 2);
+}
+
+static void without_labels(void) {
+    code = sulgrach_without_labels(plan, length, out, out_length, numbers, 2);
 }
 
 /* All links have the class that the word ends with. Not by memset, see paint. */
@@ -119,6 +127,10 @@ int main(int count, char **words) {
             used = measure(replay);
         } else if (strcmp(words[1], "rows") == 0) {
             used = measure(rows);
+        } else if (strncmp(words[1], "with", 4) == 0) {
+            /* with7 and without7 are conversions to be refused with 7. */
+            out_length = strchr(words[1], '7') != NULL ? 3 : SULGRACH_PLAN;
+            used = measure(strncmp(words[1], "without", 7) == 0 ? without_labels : with_labels);
         } else {
             fill(words[1]);
             used = measure(page);

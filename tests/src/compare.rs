@@ -3,7 +3,10 @@
 
 use crate::generate::{hex, Random};
 use crate::library;
-use crate::second::{self, Answer, Line, Listed, Refusal, Verdict, EVERY_PLAN};
+use crate::second::{
+    self, Answer, Form, Line, Listed, Refusal, Verdict, BOTH_FORMS, EVERY_PLAN, MOST_BYTES, MOST_CELLS,
+};
+use crate::trials;
 use std::cell::Cell;
 use std::fmt::Display;
 use std::hint::black_box;
@@ -36,12 +39,21 @@ struct Calls {
     replays: u64,
     pages: u64,
     breaking_rows: u64,
+    conversions: u64,
 }
 
 thread_local! {
     /// Those of the test that runs on this thread.
     static CALLS: Cell<Calls> = const {
-        Cell::new(Calls { checks: 0, class_checks: 0, listings: 0, replays: 0, pages: 0, breaking_rows: 0 })
+        Cell::new(Calls {
+            checks: 0,
+            class_checks: 0,
+            listings: 0,
+            replays: 0,
+            pages: 0,
+            breaking_rows: 0,
+            conversions: 0,
+        })
     };
 }
 
@@ -56,10 +68,10 @@ fn add(change: impl FnOnce(&mut Calls)) {
 /// Prints how many calls a test has compared; it ends with this. The count
 /// starts again from 0, since the next test may run on the same thread.
 pub fn print_calls(test: &str) {
-    let Calls { checks, class_checks, listings, replays, pages, breaking_rows } = CALLS.take();
+    let Calls { checks, class_checks, listings, replays, pages, breaking_rows, conversions } = CALLS.take();
     println!(
         "{test}: compared {checks} checks, {class_checks} checks by classes, {listings} listings, \
-         {replays} replays, {pages} pages, {breaking_rows} breaking rows"
+         {replays} replays, {pages} pages, {breaking_rows} breaking rows, {conversions} conversions"
     );
 }
 
@@ -91,8 +103,8 @@ fn dirty_bytes(random: &mut Random, length: usize) -> Vec<u8> {
     (0..length).map(|_| random.number() as u8).collect()
 }
 
-/// Bytes that are no character of a page and no mark of a row, so that one left as
-/// it was is told from one written.
+/// Bytes that are no character of a page, no mark of a row and no label 0, so that
+/// one left as it was is told from one written.
 fn unwritten_bytes(random: &mut Random, length: usize) -> Vec<u8> {
     dirty_bytes(random, length).into_iter().map(|byte| byte | 128).collect()
 }
@@ -405,4 +417,89 @@ pub fn breaking_rows(
     let remaining: Vec<usize> = (0..marks.len()).filter(|&row| marks[row] == 1).collect();
     assert_eq!(remaining.len(), answer?, "rows marked and rows counted; {case}");
     Ok(remaining)
+}
+
+/// Converts a plan both ways into an output of so many bytes, to the new form or
+/// to the old one, and compares the answer and all lent memory; returns the plan in
+/// the other form, or the refusal of both.
+pub fn convert(
+    random: &mut Random,
+    to: Form,
+    plan: &[u8],
+    output: usize,
+    sample: &dyn Display,
+) -> Result<Vec<u8>, Refusal> {
+    let case = format!("conversion to the {to:?} form, output of {output} bytes, {sample}");
+    let output = unwritten_bytes(random, output);
+    let count = random.below(4);
+    let numbers = dirty_numbers(random, count);
+
+    let (mut output_expected, mut numbers_expected) = (output.clone(), numbers.clone());
+    let expected = match to {
+        Form::New => second::with_labels(plan, &mut output_expected),
+        Form::Old => second::without_labels(plan, &mut output_expected),
+    };
+    if let (Ok(length), Some(number)) = (&expected, numbers_expected.first_mut()) {
+        *number = *length as u64;
+    }
+
+    let plan_lent = plan.to_vec();
+    let (mut output, mut numbers) = (output, numbers);
+    let found = match to {
+        Form::New => library::with_labels(&plan_lent, &mut output, &mut numbers),
+        Form::Old => library::without_labels(&plan_lent, &mut output, &mut numbers),
+    };
+
+    assert_eq!(found, done_code(&expected), "code of the library and of the second checker; {case}");
+    same("numbers", &numbers, &numbers_expected, &case);
+    same("output", &output, &output_expected, &case);
+    // A compiler may take it for granted that what is lent to be read stays.
+    same("plan", black_box(&plan_lent), plan, &case);
+    add(|calls| calls.conversions += 1);
+    output.truncate(expected?);
+    Ok(output)
+}
+
+// ------------------------------------------------------------- all calls
+
+/// A listing that any accepted plan's replay reads and none accepts.
+const SOME_LISTING: [u8; 16] = [0, 1, 0, 0, 0, 1, 0, 0, 0, 0, 0, 0, 0, 0, 0, 0];
+
+/// All eight calls on a plan that may be refused. An accepted one is only run
+/// as far as it takes to see that both go on with it.
+pub fn every_call(random: &mut Random, plan: &[u8], case: &str) {
+    let cells = random.pick(&[0, 20, MOST_CELLS, MOST_CELLS]);
+    let lengths =
+        Lengths { first: cells, second: cells, index: cells, output: random.pick(&[0, 100, 2_000]) };
+    let limit = match second::read(plan) {
+        Ok(accepted) if second::run(&accepted, 8, |_, _| ()).verdict == Verdict::Spent => 8,
+        _ => random.pick(&[0, 1, 2, 1 << 32, EVERY_PLAN, u64::MAX]),
+    };
+    check(random, plan, lengths, limit, &case);
+    list(random, plan, lengths, limit, &case);
+    replay(plan, &SOME_LISTING, &case);
+    replay(plan, &[], &case);
+    let table = vec![random.pick(&[0, 1, 999_999, 1_000_000]); cells];
+    let _ = page(random, plan, &table, lengths.output, &case);
+    let links = plan.get(2).map_or(0, |&size| usize::from(size));
+    let classes = vec![random.pick(&[0, 0, 5, 7]); links];
+    check_classes(random, plan, &classes, lengths, limit, &case);
+    few_breaking_rows(random, plan, lengths, case);
+    for to in BOTH_FORMS {
+        let output = random.pick(&[0, plan.len(), MOST_BYTES]);
+        let _ = convert(random, to, plan, output, &case);
+    }
+}
+
+/// There is no limit to the rounds of this call: a plan whose trials take more than
+/// a few is lent too few marks for it, or too short a table.
+fn few_breaking_rows(random: &mut Random, plan: &[u8], mut lengths: Lengths, case: &str) {
+    let mut marks = random.pick(&[0, 1, 128, 300]);
+    if let Ok(accepted) = second::read(plan) {
+        if trials::left(&accepted, 8).is_none() {
+            marks = accepted.edges.len().saturating_sub(1);
+            lengths.first = if marks == 0 { accepted.cells() - 1 } else { lengths.first };
+        }
+    }
+    let _ = breaking_rows(random, plan, lengths, marks, &case);
 }

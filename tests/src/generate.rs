@@ -3,6 +3,7 @@
 pub mod devices;
 pub mod faults;
 pub mod listings;
+pub mod point_labels;
 pub mod rows;
 
 use crate::second::{self, Edge, Ground, Link, Origin, Plan, Verdict, MOST_CELLS, MOST_EDGES, MOST_SECONDS};

@@ -7,6 +7,7 @@ pub mod following;
 pub mod game;
 pub mod generate;
 pub mod library;
+pub mod misread;
 pub mod port;
 pub mod second;
 pub mod tally;

@@ -8,7 +8,7 @@ pub mod header {
 
 use header::{
     sulgrach_breaking_rows, sulgrach_check, sulgrach_check_classes, sulgrach_list, sulgrach_page,
-    sulgrach_replay,
+    sulgrach_replay, sulgrach_with_labels, sulgrach_without_labels,
 };
 
 // The types of the calls as they are relied on here. Types of functions must
@@ -58,13 +58,16 @@ type BreakingRows = unsafe extern "C" fn(
     *mut u64,
     usize,
 ) -> u32;
-const _: (Check, CheckClasses, List, Replay, Page, BreakingRows) = (
+type Convert = unsafe extern "C" fn(*const u8, usize, *mut u8, usize, *mut u64, usize) -> u32;
+const _: (Check, CheckClasses, List, Replay, Page, BreakingRows, Convert, Convert) = (
     sulgrach_check,
     sulgrach_check_classes,
     sulgrach_list,
     sulgrach_replay,
     sulgrach_page,
     sulgrach_breaking_rows,
+    sulgrach_with_labels,
+    sulgrach_without_labels,
 );
 
 pub const KEPT: u32 = header::SULGRACH_KEPT;
@@ -200,5 +203,24 @@ pub fn breaking_rows(
             numbers.as_mut_ptr(),
             numbers.len(),
         )
+    }
+}
+
+/// The code of the answer; the length of the plan in its new form goes into
+/// `numbers[0]`.
+pub fn with_labels(plan: &[u8], out: &mut [u8], numbers: &mut [u64]) -> u32 {
+    convert(sulgrach_with_labels, plan, out, numbers)
+}
+
+/// The code of the answer; the length of the plan in its old form goes into
+/// `numbers[0]`.
+pub fn without_labels(plan: &[u8], out: &mut [u8], numbers: &mut [u64]) -> u32 {
+    convert(sulgrach_without_labels, plan, out, numbers)
+}
+
+fn convert(call: Convert, plan: &[u8], out: &mut [u8], numbers: &mut [u64]) -> u32 {
+    // SAFETY: as for `check`; the plan is only read.
+    unsafe {
+        call(plan.as_ptr(), plan.len(), out.as_mut_ptr(), out.len(), numbers.as_mut_ptr(), numbers.len())
     }
 }

@@ -22,10 +22,11 @@ pub const MOST_EDGES: usize = 128;
 /// The most lines that a listing may have.
 pub const MOST_LINES: usize = 4_096;
 
-/// The most bytes that the program reads as a plan.
-pub const MOST_BYTES: usize = 800;
+/// The most bytes that the program reads as a plan: "the program's 800 becomes
+/// 832" (7/13).
+pub const MOST_BYTES: usize = 832;
 
-/// The number of a refusal, 1 to 16.
+/// The number of a refusal, 1 to 19.
 pub type Refusal = u32;
 
 // ---------------------------------------------------------------- labels
@@ -60,6 +61,18 @@ fn join_digits(one: u8, other: u8) -> u8 {
 /// "A label is plain if no digit is 3."
 pub fn plain(label: u8) -> bool {
     (0..4).all(|j| digit(label, j) != 3)
+}
+
+/// Whether a label "contains" another one (7/13): each digit of the other that is
+/// not 0 is its own digit.
+pub fn contains(label: u8, other: u8) -> bool {
+    (0..4).all(|j| digit(other, j) == 0 || digit(other, j) == digit(label, j))
+}
+
+/// The observing points that a label "names" (7/13): those of the propositions
+/// whose digit is not 0.
+pub fn named(observing: &[usize], label: u8) -> Vec<usize> {
+    (0..observing.len()).filter(|&j| digit(label, j) != 0).map(|j| observing[j]).collect()
 }
 
 // ------------------------------------------------------------- link sets
@@ -105,6 +118,10 @@ pub struct Plan {
     pub points: usize,
     /// The observing point of each proposition.
     pub observing: Vec<usize>,
+    /// The label of each point, 0 in the old form. "The check then runs as if
+    /// points had none" (7/13): nothing after the reading of a plan looks at them
+    /// but the conversion that drops them.
+    pub point_labels: Vec<u8>,
     pub links: Vec<Link>,
     pub edges: Vec<Edge>,
     /// That of the plan as it was read, also where edges have been left out.
@@ -214,9 +231,44 @@ impl Plan {
     }
 }
 
-/// Reads a plan. "Order: under 4 bytes, 2, length, then 3 to 7"; 6 and 7 are
-/// not about the plan.
-pub fn read(bytes: &[u8]) -> Result<Plan, Refusal> {
+/// "A new plan form has n label bytes after the observing points; the old one is
+/// still read, told apart by length." (7/13)
+#[derive(Clone, Copy, Debug, PartialEq, Eq)]
+pub enum Form {
+    Old,
+    New,
+}
+
+pub const BOTH_FORMS: [Form; 2] = [Form::Old, Form::New];
+
+impl Form {
+    /// The label bytes of a plan of n points.
+    fn label_bytes(self, n: usize) -> usize {
+        match self {
+            Form::Old => 0,
+            Form::New => n,
+        }
+    }
+}
+
+/// What the bytes of a plan say, before any of it is judged but sizes and length.
+#[derive(Clone, Debug, PartialEq, Eq)]
+pub struct Fields {
+    pub form: Form,
+    pub points: usize,
+    pub observing: Vec<usize>,
+    /// 0 for each point in the old form.
+    pub point_labels: Vec<u8>,
+    pub links: Vec<Link>,
+    pub edges: Vec<Edge>,
+    /// The last byte of each edge.
+    pub last_bytes: Vec<u8>,
+}
+
+/// The fields of a plan in one of these forms. "Under 4 bytes, 2, length": 1 is a
+/// "length other than 4 + p + 6(k + e)", and "the length in 1 counts the new
+/// bytes" (7/13).
+pub fn fields(bytes: &[u8], forms: &[Form]) -> Result<Fields, Refusal> {
     if bytes.len() < 4 {
         return Err(1);
     }
@@ -224,30 +276,58 @@ pub fn read(bytes: &[u8]) -> Result<Plan, Refusal> {
     if !sizes_in_bounds(n, p, k, e) {
         return Err(2);
     }
-    if bytes.len() != 4 + p + 6 * (k + e) {
-        return Err(1);
-    }
+    let length = |form: Form| 4 + p + form.label_bytes(n) + 6 * (k + e);
+    let form = *forms.iter().find(|&&form| bytes.len() == length(form)).ok_or(1_u32)?;
 
-    let observing: Vec<usize> = bytes[4..4 + p].iter().map(|&point| usize::from(point)).collect();
-    if !observing_points_right(n, &observing) {
-        return Err(3);
-    }
+    let (observing, rest) = bytes[4..].split_at(p);
+    let (labels, rest) = rest.split_at(form.label_bytes(n));
+    let (ends, rows) = rest.split_at(2 * (k + e));
+    Ok(Fields {
+        form,
+        points: n,
+        observing: observing.iter().map(|&point| usize::from(point)).collect(),
+        point_labels: if form == Form::New { labels.to_vec() } else { vec![0; n] },
+        links: (0..k).map(|row| link_of(&ends[2 * row..], &rows[4 * row..])).collect(),
+        edges: (k..k + e).map(|row| edge_of(&ends[2 * row..], &rows[4 * row..])).collect(),
+        last_bytes: (k..k + e).map(|row| rows[4 * row + 3]).collect(),
+    })
+}
 
-    let ends = &bytes[4 + p..][..2 * (k + e)];
-    let rows = &bytes[4 + p + 2 * (k + e)..];
-    let links: Vec<Link> = (0..k).map(|row| link_of(&ends[2 * row..], &rows[4 * row..])).collect();
-    if !links_right(n, &observing, &links) {
-        return Err(4);
-    }
+/// Reads a plan of either form.
+pub fn read(bytes: &[u8]) -> Result<Plan, Refusal> {
+    read_form(bytes, &BOTH_FORMS)
+}
 
-    let edges: Vec<Edge> = (k..k + e).map(|row| edge_of(&ends[2 * row..], &rows[4 * row..])).collect();
-    let last_bytes_zero = (k..k + e).all(|row| rows[4 * row + 3] == 0);
-    if !last_bytes_zero || !edges.iter().all(|edge| edge_right(n, p, edge)) {
-        return Err(5);
+/// Reads a plan in one of these forms. "Order: under 4 bytes, 2, length, then 3 to
+/// 7", with 17 "right after 3" and 18 "right after 5" (7/13); 6 and 7 are not about
+/// the plan.
+fn read_form(bytes: &[u8], forms: &[Form]) -> Result<Plan, Refusal> {
+    let fields = fields(bytes, forms)?;
+    for (refusal, right) in JUDGED_BEFORE_18 {
+        if !right(&fields) {
+            return Err(refusal);
+        }
     }
+    let plan = plan_of(fields);
+    if !CONDITIONS.iter().all(|condition| condition.holds(&plan)) {
+        return Err(18);
+    }
+    Ok(plan)
+}
 
-    let horizon = horizon(n, &links, &edges);
-    Ok(Plan { points: n, observing, links, edges, horizon, link_edges: true })
+/// What is judged of a plan's fields before 18, in this order.
+pub const JUDGED_BEFORE_18: [(Refusal, fn(&Fields) -> bool); 4] = [
+    (3, |fields| observing_points_right(fields.points, &fields.observing)),
+    (17, |fields| point_labels_right(fields.observing.len(), &fields.point_labels)),
+    (4, |fields| links_right(fields.points, &fields.observing, &fields.links)),
+    (5, edges_right),
+];
+
+/// The plan of these fields.
+pub fn plan_of(fields: Fields) -> Plan {
+    let Fields { points, observing, point_labels, links, edges, .. } = fields;
+    let horizon = horizon(points, &links, &edges);
+    Plan { points, observing, point_labels, links, edges, horizon, link_edges: true }
 }
 
 /// "n 2 to 32, p and k 0 to 4, e 0 to 128, n × 2^k × 4^p at most 16,384."
@@ -262,6 +342,12 @@ fn observing_points_right(n: usize, observing: &[usize]) -> bool {
         let used_before = observing[..j].contains(&point);
         point != 0 && point < n && !used_before
     })
+}
+
+/// Refusal 17: "a point label not plain, with a digit at p or above, or not 0 at
+/// Z". (7/13)
+fn point_labels_right(p: usize, labels: &[u8]) -> bool {
+    labels.iter().all(|&label| plain(label) && (p..4).all(|j| digit(label, j) == 0)) && labels[0] == 0
 }
 
 /// Refusal 4: "link: end ≥ n, A = C, C = 0, C observing, C used twice, s or y
@@ -282,9 +368,15 @@ fn links_right(n: usize, observing: &[usize], links: &[Link]) -> bool {
     })
 }
 
-/// Refusal 5, but for the last byte: "edge: end ≥ n, equal ends, u out of
-/// bounds, label not plain or with a digit at p or above". "Weights now run
-/// from −28,800 to 28,800."
+/// Refusal 5: "edge: end ≥ n, equal ends, u out of bounds, label not plain or with
+/// a digit at p or above, last byte not 0".
+fn edges_right(fields: &Fields) -> bool {
+    let (n, p) = (fields.points, fields.observing.len());
+    let last_bytes_zero = fields.last_bytes.iter().all(|&byte| byte == 0);
+    last_bytes_zero && fields.edges.iter().all(|edge| edge_right(n, p, edge))
+}
+
+/// Refusal 5, but for the last byte. "Weights now run from −28,800 to 28,800."
 fn edge_right(n: usize, p: usize, edge: &Edge) -> bool {
     edge.from < n
         && edge.to < n
@@ -292,6 +384,69 @@ fn edge_right(n: usize, p: usize, edge: &Edge) -> bool {
         && (-MOST_SECONDS..=MOST_SECONDS).contains(&edge.weight)
         && plain(edge.label)
         && (p..4).all(|j| digit(edge.label, j) == 0)
+}
+
+/// What refusal 18 asks for: "Definition 3 of source document 000 applies, edges
+/// being edge rows", and the link condition. (7/13)
+#[derive(Clone, Copy, Debug, PartialEq, Eq, PartialOrd, Ord)]
+pub enum Condition {
+    /// 1: "an edge's label contains both ends' labels".
+    EdgeContainsEnds,
+    /// 2a: "a point's label contains the label of each observing point it names".
+    PointContainsNamed,
+    /// 2b: "some edge of negative weight with exactly the point's label runs from
+    /// the point to that observing point".
+    PointIsAfterNamed,
+    /// 3: "an edge's label contains the label of each observing point it names".
+    EdgeContainsNamed,
+    /// "A and C of a link carry equal labels."
+    LinkEndsEqual,
+}
+
+pub const CONDITIONS: [Condition; 5] = [
+    Condition::EdgeContainsEnds,
+    Condition::PointContainsNamed,
+    Condition::PointIsAfterNamed,
+    Condition::EdgeContainsNamed,
+    Condition::LinkEndsEqual,
+];
+
+impl Condition {
+    pub fn holds(self, plan: &Plan) -> bool {
+        let of_point = &plan.point_labels;
+        let mut edges = plan.edges.iter();
+        match self {
+            Condition::EdgeContainsEnds => edges.all(|edge| {
+                contains(edge.label, of_point[edge.from]) && contains(edge.label, of_point[edge.to])
+            }),
+            Condition::PointContainsNamed => of_point.iter().all(|&label| contains_named(plan, label)),
+            Condition::PointIsAfterNamed => (0..plan.points).all(|point| {
+                named(&plan.observing, of_point[point])
+                    .into_iter()
+                    .all(|observing| runs_to_observing(plan, point, observing))
+            }),
+            Condition::EdgeContainsNamed => edges.all(|edge| contains_named(plan, edge.label)),
+            Condition::LinkEndsEqual => {
+                plan.links.iter().all(|link| of_point[link.activation] == of_point[link.end])
+            }
+        }
+    }
+}
+
+/// Whether a label "contains the label of each observing point it names". (7/13)
+fn contains_named(plan: &Plan, label: u8) -> bool {
+    named(&plan.observing, label).into_iter().all(|point| contains(label, plan.point_labels[point]))
+}
+
+/// "Some edge of negative weight with exactly the point's label runs from the point
+/// to that observing point." (7/13)
+fn runs_to_observing(plan: &Plan, point: usize, observing: usize) -> bool {
+    plan.edges.iter().any(|edge| {
+        edge.weight < 0
+            && edge.label == plan.point_labels[point]
+            && edge.from == point
+            && edge.to == observing
+    })
 }
 
 /// "First array: from, to (one byte each). Second array: a link has s and y
@@ -635,7 +790,8 @@ pub fn rounds_for(plan: &Plan) -> u64 {
 
 /// "Every trial uses the whole plan's horizon and has demand 3's number of rounds
 /// for the whole plan." (6/13) What is tried is the plan with just these of its
-/// edge rows, from a table of zeros.
+/// edge rows, from a table of zeros. "18 judges the whole plan, not what a trial
+/// leaves of it." (7/13)
 pub fn trial(plan: &Plan, rows: &[usize]) -> Answer {
     let answer = run(&plan.with_rows(rows), rounds_for(plan), |_, _| ());
     assert_ne!(
@@ -819,7 +975,8 @@ fn entry_of(head: &[u8], ground: &[u8]) -> Entry {
     }
 }
 
-/// Replay: 0 or the refusal. "1 to 5, 8, then 9 and 10 line by line, then 11."
+/// Replay: 0 or the refusal. "1 to 5, 8, then 9 and 10 line by line, then 11";
+/// 17 and 18 stand among 1 to 5 here too (7/13).
 pub fn replay(plan: &[u8], listing: &[u8]) -> Refusal {
     match read(plan).and_then(|plan| replay_on(&plan, listing)) {
         Ok(()) => 0,
@@ -956,10 +1113,43 @@ fn row_of(line: &Line) -> Row {
     row
 }
 
+// ----------------------------------------------------- the two conversions
+
+/// "Conversion old to new writes zeros; the output past them is untouched." It
+/// "takes only the form it starts from". It refuses, "last, with 7 too short an
+/// output", which "leaves everything lent untouched". (7/13) The length is
+/// returned.
+pub fn with_labels(bytes: &[u8], output: &mut [u8]) -> Result<usize, Refusal> {
+    let plan = read_form(bytes, &[Form::Old])?;
+    let (before, after) = bytes.split_at(4 + plan.observing.len());
+    put_plan(&[before, &vec![0; plan.points], after].concat(), output)
+}
+
+/// "New to old drops them." It refuses, after the plan's own refusals, "in
+/// conversion to old, with 19 a label that is not 0", and then with 7 as above.
+/// (7/13)
+pub fn without_labels(bytes: &[u8], output: &mut [u8]) -> Result<usize, Refusal> {
+    let plan = read_form(bytes, &[Form::New])?;
+    if plan.point_labels.iter().any(|&label| label != 0) {
+        return Err(19);
+    }
+    let (before, rest) = bytes.split_at(4 + plan.observing.len());
+    put_plan(&[before, &rest[plan.points..]].concat(), output)
+}
+
+/// Refusal 7, "too short an output", or the plan in it and its length.
+fn put_plan(plan: &[u8], output: &mut [u8]) -> Result<usize, Refusal> {
+    if output.len() < plan.len() {
+        return Err(7);
+    }
+    output[..plan.len()].copy_from_slice(plan);
+    Ok(plan.len())
+}
+
 // ----------------------------------------------------------- the program
 
-/// What the program prints for this input. "Over 800 bytes is refusal 1,
-/// before any other."
+/// What the program prints for this input. "Over 800 bytes is refusal 1, before
+/// any other", and "the program's 800 becomes 832" (7/13).
 pub fn program(input: &[u8]) -> String {
     if input.len() > MOST_BYTES {
         return refusal_text(1);

@@ -1,7 +1,7 @@
 //! What trials leave of a plan's edge rows, as far as so many rounds go; and what
 //! a call would leave that makes a mistake about them.
 
-use crate::second::{self, Answer, Plan, Verdict};
+use crate::second::{self, Answer, Plan, Verdict, CONDITIONS};
 
 /// What a call leaves: the rows that remain, unless the plan is kept, and the
 /// table.
@@ -28,8 +28,12 @@ pub enum Mistake {
     LastTables,
     /// The tables are those of the whole plan.
     WholeTables,
+    /// 18 judges what a trial leaves of the plan, and such a trial is not broken.
+    /// Only plans with labels on points tell.
+    JudgedBy18,
 }
 
+/// Those that plans without labels tell.
 pub const MISTAKES: [Mistake; 7] = [
     Mistake::LastRowFirst,
     Mistake::AmongAll,
@@ -104,6 +108,9 @@ impl Trials<'_> {
         let tried = self.plan.with_rows(rows);
         let mut own = tried.clone();
         own.horizon = second::horizon(own.points, &own.links, &own.edges);
+        if self.mistake == Some(Mistake::JudgedBy18) && !CONDITIONS.iter().all(|one| one.holds(&tried)) {
+            return Answer { verdict: Verdict::Kept, rounds: 0, table: vec![0; tried.cells()] };
+        }
         let (tried, limit) = match self.mistake {
             Some(Mistake::OwnHorizon) => (&own, second::rounds_for(self.plan)),
             Some(Mistake::OwnRounds) => (&tried, second::rounds_for(&own)),

@@ -7,6 +7,7 @@ use std::fs;
 use sulgrach_tests::compare::{self, Lengths};
 use sulgrach_tests::game::{self, Durations};
 use sulgrach_tests::generate::faults::{faulty, faulty_many_times, FAULTS};
+use sulgrach_tests::generate::point_labels::with_label_bytes;
 use sulgrach_tests::generate::rows::{contradiction, crowded, kept, wide, with_contradictions};
 use sulgrach_tests::generate::{hex, plan_before_lengthening, samples, Class, Draft, Random};
 use sulgrach_tests::library::header::SULGRACH_EDGES;
@@ -64,27 +65,65 @@ fn answers_by_hand() {
         (plan_of(2, &[], &[within(1, 0, 5), after(1, 0, 3)]), refused(16), &[], &[0, 3]),
         (plan_of(3, &[], &[]), refused(16), &[], &[0, 0, 0]),
     ];
-    let mut made = 0;
-    for (plan, code, marks, cells) in &cases {
-        let edges = usize::from(plan[3]);
-        for (past, numbers) in [(0, 0), (0, 1), (1, 2), (9, 64)] {
-            let [mut first, mut second] = [(); 2].map(|()| vec![0xa5a5_a5a5; cells.len() + past]);
-            let mut rows = vec![0xa5; edges + past];
-            let mut numbers = vec![0x5a5a_5a5a_5a5a_5a5a; numbers];
-            let mut due = (*code, first.clone(), second.clone(), rows.clone(), numbers.clone());
-            due.1[..cells.len()].copy_from_slice(cells);
-            due.2[..cells.len()].copy_from_slice(cells);
-            due.3[..marks.len()].copy_from_slice(marks);
-            if let (DONE, Some(number)) = (*code, due.4.first_mut()) {
-                *number = marks.iter().map(|&mark| u64::from(mark)).sum();
-            }
-            let found = library::breaking_rows(plan, &mut first, &mut second, &mut rows, &mut numbers);
-            let case = format!("plan {}, {past} entries past those due", hex(plan));
-            assert_eq!((found, first, second, rows, numbers), due, "{case}");
-            made += 1;
+    cases.iter().for_each(|(plan, code, marks, cells)| answered_by_hand(plan, *code, marks, cells));
+    println!("answers_by_hand: 4 times the rows of {} plans", cases.len());
+}
+
+/// Code, marks, numbers and tables of a plan, on memory of four lengths.
+fn answered_by_hand(plan: &[u8], code: u32, marks: &[u8], cells: &[u32]) {
+    let edges = usize::from(plan[3]);
+    for (past, numbers) in [(0, 0), (0, 1), (1, 2), (9, 64)] {
+        let [mut first, mut second] = [(); 2].map(|()| vec![0xa5a5_a5a5; cells.len() + past]);
+        let mut rows = vec![0xa5; edges + past];
+        let mut numbers = vec![0x5a5a_5a5a_5a5a_5a5a; numbers];
+        let mut due = (code, first.clone(), second.clone(), rows.clone(), numbers.clone());
+        due.1[..cells.len()].copy_from_slice(cells);
+        due.2[..cells.len()].copy_from_slice(cells);
+        due.3[..marks.len()].copy_from_slice(marks);
+        if let (DONE, Some(number)) = (code, due.4.first_mut()) {
+            *number = marks.iter().map(|&mark| u64::from(mark)).sum();
         }
+        let found = library::breaking_rows(plan, &mut first, &mut second, &mut rows, &mut numbers);
+        let case = format!("plan {}, {past} entries past those due", hex(plan));
+        assert_eq!((found, first, second, rows, numbers), due, "{case}");
     }
-    println!("answers_by_hand: {made} breaking rows");
+}
+
+/// Point 2 exists only under yes, which is learnt at point 1, and an edge says that it
+/// comes later: the plan is refused without that edge, and a trial is not. Told here
+/// without the second checker.
+#[test]
+fn labels_do_not_judge_trials() {
+    let due = |gap| Edge { label: 1, ..after(2, 1, gap) };
+    let bound = |gap| Edge { label: 1, ..within(2, 0, gap) };
+    let (early, late) = (within(1, 0, 5), after(1, 0, 6));
+    let contradiction: &[u32] = &[1, 0, 0, 0, 6, 0, 0, 0, 0, 0, 0, 0];
+    let too_late: &[u32] = &[0, 1, 0, 0, 0, 0, 0, 0, 0, 4, 0, 0];
+    let on_time: &[u32] = &[0, 0, 0, 0, 0, 0, 0, 0, 0, 4, 0, 0];
+    // Edges; code, marks, cells.
+    type Case = (Vec<Edge>, u32, &'static [u8], &'static [u32]);
+    let cases: [Case; 7] = [
+        // The edge that the label calls for is left out first, between, or last.
+        (vec![due(1), early, late], DONE, &[0, 1, 1], contradiction),
+        (vec![early, due(1), late], DONE, &[1, 0, 1], contradiction),
+        (vec![early, late, due(1)], DONE, &[1, 1, 0], contradiction),
+        // It remains where it breaks the plan.
+        (vec![due(4), bound(3)], DONE, &[1, 1], too_late),
+        (vec![due(4), due(1), bound(3)], DONE, &[1, 0, 1], too_late),
+        (vec![bound(3), due(1), due(4)], DONE, &[1, 0, 1], too_late),
+        (vec![due(4), bound(4)], refused(16), &[], on_time),
+    ];
+    for (edges, code, marks, cells) in cases {
+        let old = Draft { points: 3, observing: vec![1], links: vec![], edges }.bytes();
+        for labels in [[0, 0, 0], [0, 0, 1]] {
+            answered_by_hand(&with_label_bytes(&old, &labels), code, marks, cells);
+        }
+        answered_by_hand(&old, code, marks, cells);
+    }
+    // Without the edge the plan itself is refused, and before the marks are looked at.
+    let unfit = Draft { points: 3, observing: vec![1], links: vec![], edges: vec![early, late] }.bytes();
+    let unfit = with_label_bytes(&unfit, &[0, 0, 1]);
+    assert_eq!(library::breaking_rows(&unfit, &mut [9; 12], &mut [9; 12], &mut [], &mut []), refused(18));
 }
 
 /// Finds the rows with ample memory. What is due is told without the second
@@ -114,7 +153,7 @@ fn are_as_wanted(plan: &Plan, rows: &[usize], case: &dyn Display) {
 /// their texts.
 #[test]
 fn plans_of_the_folder() {
-    let broken: [(&str, &[usize]); 9] = [
+    let broken: [(&str, &[usize]); 10] = [
         ("c2", &[0, 1]),
         ("c4", &[0, 1]),
         ("c6", &[0]),
@@ -124,6 +163,7 @@ fn plans_of_the_folder() {
         ("carpark", &[3, 6, 9]),
         ("tower", &[0, 3, 18, 21, 22]),
         ("coldstore-late", &[2, 4, 5]),
+        ("smoke-extract-late", &[0, 4, 8, 11]),
     ];
     let mut random = Random::new(0);
     let mut seen = 0;
@@ -431,7 +471,7 @@ fn lengths_about(due: usize) -> Vec<usize> {
 
 // -------------------------------------------------------------- refusals
 
-/// Refusals 1 to 5 come before 6, be it for the tables or for the marks.
+/// Refusals 1 to 5, 17 and 18 come before 6, be it for the tables or for the marks.
 #[test]
 fn faulty_plans() {
     for (number, fault) in FAULTS.iter().enumerate() {

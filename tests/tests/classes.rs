@@ -288,7 +288,7 @@ fn tables(random: &mut Random, cells: usize, short: [bool; 2]) -> Lengths {
     lengths
 }
 
-/// Refusals 1 to 5 come before 14, 15 and 6.
+/// Refusals 1 to 5, 17 and 18 come before 14, 15 and 6.
 #[test]
 fn faulty_plans() {
     for (number, fault) in FAULTS.iter().enumerate() {

@@ -3,7 +3,7 @@
 
 use sulgrach_tests::library::header::{CALLS, CONSTANTS, SULGRACH_STACK};
 use sulgrach_tests::second::{
-    listing_bytes, page_bytes, EVERY_PLAN, MOST_CELLS, MOST_EDGES, MOST_LINES, MOST_SECONDS,
+    listing_bytes, page_bytes, EVERY_PLAN, MOST_BYTES, MOST_CELLS, MOST_EDGES, MOST_LINES, MOST_SECONDS,
 };
 
 #[test]
@@ -16,6 +16,8 @@ fn every_constant() {
         ("SULGRACH_BROKEN", 1),
         ("SULGRACH_SPENT", 2),
         ("SULGRACH_REFUSED", 100),
+        // 32 points, 4 propositions, 4 links and 128 edges of the new form.
+        ("SULGRACH_PLAN", MOST_BYTES as u64),
         ("SULGRACH_SECONDS", MOST_SECONDS as u64),
         ("SULGRACH_CELLS", MOST_CELLS as u64),
         ("SULGRACH_EDGES", MOST_EDGES as u64),
@@ -38,6 +40,8 @@ fn every_call() {
         "sulgrach_replay",
         "sulgrach_page",
         "sulgrach_breaking_rows",
+        "sulgrach_with_labels",
+        "sulgrach_without_labels",
     ];
     assert_eq!(CALLS, expected);
 }

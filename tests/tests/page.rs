@@ -327,7 +327,7 @@ fn answered(
 
 // -------------------------------------------------------------- refusals
 
-/// Refusals 1 to 5 come before all others: also where the table is too short or
+/// Refusals 1 to 5, 17 and 18 come before all others: also where the table is too short or
 /// has cells too high, where the output is too short, and where all is wrong.
 #[test]
 fn faulty_plans() {

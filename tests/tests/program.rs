@@ -11,8 +11,9 @@ use std::process::{Child, Command, ExitStatus, Stdio};
 use std::thread;
 use std::time::{Duration, Instant};
 use sulgrach_tests::generate::faults::{faulty, faulty_many_times, FAULTS};
+use sulgrach_tests::generate::point_labels::{in_new_form, labelled};
 use sulgrach_tests::generate::{hex, long_cycles, samples, Class, Draft, Random};
-use sulgrach_tests::second::{self, Edge, Link, Verdict, EVERY_PLAN, MOST_BYTES, MOST_SECONDS};
+use sulgrach_tests::second::{self, Edge, Form, Link, Verdict, EVERY_PLAN, MOST_BYTES, MOST_SECONDS};
 use sulgrach_tests::{plan_files, times};
 
 /// Longer than any plan used here takes.
@@ -165,46 +166,90 @@ fn input_in_pieces() {
     println!("input_in_pieces: {given} inputs, three of each plan, given to the program");
 }
 
-/// 800 bytes, as 4 propositions, 4 links and 128 edges take. They would need 9
-/// points at least, which are too many cells, so no such plan is accepted; but
-/// this one is not refused for its length.
-fn plan_of_800_bytes() -> Vec<u8> {
+/// Plans with labels that fit print what they print without them.
+#[test]
+fn plans_with_labels() {
+    let (mut given, mut with_labels) = (0, 0);
+    for class in [Class::Small, Class::Decisive] {
+        for sample in samples(class, 3_200_000, times(60)) {
+            let labelled = labelled(sample.seed, &sample.plan);
+            let plan = second::read(&labelled.bytes()).expect("an accepted plan");
+            let answer = second::run(&plan, 2_000, |_, _| ());
+            if answer.verdict == Verdict::Spent {
+                continue;
+            }
+            let expected = second::answer_text(&plan, &answer);
+            let old = labelled.without_labels();
+            for form in [&labelled.bytes(), &in_new_form(&old), &old] {
+                assert_prints(form, &expected);
+            }
+            given += 3;
+            with_labels += usize::from(!labelled.labelled_points().is_empty());
+        }
+    }
+    println!(
+        "plans_with_labels: {given} plans given to the program, {with_labels} with labels that are not 0"
+    );
+    assert!(6 * with_labels >= given, "only {with_labels} of {given}");
+}
+
+/// As many bytes as 4 propositions, 4 links, 128 edges and so many labels take: 800
+/// without labels. They would need 9 points at least, which are too many cells, so no
+/// such plan is accepted; but one of 4 points is not refused for its length.
+fn plan_of_4_points(labels: usize) -> Vec<u8> {
     let mut plan = vec![4, 4, 4, 128, 1, 2, 3, 1];
-    plan.resize(MOST_BYTES, 0);
+    plan.resize(800 + labels, 0);
     plan
 }
 
 #[test]
 fn lengths_of_input() {
     assert_prints(&[], "refused 1\n");
-    assert_prints(&plan_of_800_bytes(), "refused 3\n");
-    let mut one_more = plan_of_800_bytes();
-    one_more.push(0);
-    assert_prints(&one_more, "refused 1\n");
+    for (labels, refusal) in [(0, 3), (1, 1), (3, 1), (4, 3), (5, 1), (32, 1), (33, 1)] {
+        assert_prints(&plan_of_4_points(labels), &format!("refused {refusal}\n"));
+    }
+    // 32 points, 4 propositions, 4 links, 128 edges, the new form: too many cells.
+    let mut largest_sizes = vec![32, 4, 4, 128];
+    largest_sizes.resize(832, 0);
+    assert_prints(&largest_sizes, "refused 2\n");
+    largest_sizes.push(0);
+    assert_prints(&largest_sizes, "refused 1\n");
 
-    // Over 800 bytes comes before the sizes, which would be refusal 2.
+    // Over 832 bytes comes before the sizes, which would be refusal 2.
     assert_prints(&[255; 800], "refused 2\n");
-    assert_prints(&[255; 801], "refused 1\n");
+    assert_prints(&[255; 801], "refused 2\n");
+    assert_prints(&[255; 832], "refused 2\n");
+    assert_prints(&[255; 833], "refused 1\n");
     assert_prints(&vec![255; 1_000_000], "refused 1\n");
     assert_prints(&vec![0; 1_000_000], "refused 1\n");
     // A plan with more after it.
     let mut followed = fs::read(repository().join("plans/c1.plan")).expect("a plan");
     followed.resize(1_000_000, 0);
     assert_prints(&followed, "refused 1\n");
-    assert_eq!(output(vec![vec![255; 800], vec![255]]), "refused 1\n");
-    assert_eq!(output(vec![vec![255; 400], vec![255; 400], vec![]]), "refused 2\n");
+    assert_eq!(output(vec![vec![255; 832], vec![255]]), "refused 1\n");
+    assert_eq!(output(vec![vec![255; 800], vec![255; 33]]), "refused 1\n");
+    assert_eq!(output(vec![vec![255; 416], vec![255; 416], vec![]]), "refused 2\n");
 }
 
 #[test]
-fn the_longest_accepted_plan() {
-    // With p 3 and k 4 the most that is accepted: 4 + 3 + 6 × 132 bytes.
-    let mut draft = Draft { points: 16, observing: vec![1, 2, 3], links: vec![], edges: vec![] };
-    draft.links = (4..8).map(|end| Link { activation: 0, end, least: 1, most: 2 }).collect();
-    draft.edges = (0..128).map(|i| Edge { from: 8 + i % 8, to: i % 8, weight: i as i64, label: 0 }).collect();
-    let plan = draft.bytes();
-    assert_eq!(plan.len(), 799);
-    let read = second::read(&plan).expect("an accepted plan");
-    assert_prints(&plan, &second::answer_text(&read, &second::run(&read, EVERY_PLAN, |_, _| ())));
+fn the_longest_accepted_plans() {
+    // In the old form the most that is accepted has p 3 and k 4: 4 + 3 + 6 × 132 bytes.
+    // In the new form it has 32 points and p 2: 4 + 2 + 32 + 6 × 132.
+    for (points, observing, form, length) in [
+        (16, vec![1, 2, 3], Form::Old, 799),
+        (16, vec![1, 2, 3], Form::New, 815),
+        (32, vec![1, 2], Form::New, 830),
+    ] {
+        let mut draft = Draft { points, observing, links: vec![], edges: vec![] };
+        draft.links = (4..8).map(|end| Link { activation: 0, end, least: 1, most: 2 }).collect();
+        draft.edges =
+            (0..128).map(|i| Edge { from: 8 + i % 8, to: i % 8, weight: i as i64, label: 0 }).collect();
+        let old = draft.bytes();
+        let plan = if form == Form::Old { old } else { in_new_form(&old) };
+        assert_eq!(plan.len(), length);
+        let read = second::read(&plan).expect("an accepted plan");
+        assert_prints(&plan, &second::answer_text(&read, &second::run(&read, EVERY_PLAN, |_, _| ())));
+    }
 }
 
 /// A reader that is gone does no harm: the process ends, by itself or by the

@@ -1,15 +1,13 @@
 //! What is turned down: the number, the order of judging, and all lent memory
 //! untouched.
 
-use sulgrach_tests::compare::{self, Lengths};
+use sulgrach_tests::compare::{self, every_call, Lengths};
 use sulgrach_tests::generate::faults::{faulty, faulty_many_times, sound, FAULTS};
+use sulgrach_tests::generate::point_labels::in_new_form;
 use sulgrach_tests::generate::{hex, samples, Class, Random};
 use sulgrach_tests::library;
-use sulgrach_tests::second::{self, Verdict, EVERY_PLAN, MOST_CELLS};
-use sulgrach_tests::{times, trials};
-
-/// A listing that any accepted plan's replay reads and none accepts.
-const SOME_LISTING: [u8; 16] = [0, 1, 0, 0, 0, 1, 0, 0, 0, 0, 0, 0, 0, 0, 0, 0];
+use sulgrach_tests::second::{self, EVERY_PLAN};
+use sulgrach_tests::times;
 
 #[test]
 fn every_clause_alone() {
@@ -39,7 +37,7 @@ fn several_faults_in_order() {
 fn any_bytes_changed() {
     for seed in 0..times(4_000) {
         let mut random = Random::new(seed);
-        let (_, mut plan) = sound(&mut random);
+        let mut plan = sound(&mut random);
         for _ in 0..random.between(1, 3) {
             // The sizes are changed as often as all the rest.
             let places = if random.chance(50) { 4 } else { plan.len() };
@@ -118,48 +116,21 @@ fn bounds_that_are_still_accepted() {
         assert!(second::read(&plan).is_ok(), "{bound}");
         for seed in 0..20 {
             every_call(&mut Random::new(seed), &plan, &format!("{bound}, seed {seed}"));
+            every_call(
+                &mut Random::new(seed),
+                &in_new_form(&plan),
+                &format!("{bound}, labels 0, seed {seed}"),
+            );
         }
     }
     for label in 0..=255 {
         let plan = [5, 4, 0, 1, 1, 2, 3, 4, 0, 1, 0, 0, label, 0];
+        let new = in_new_form(&plan);
+        assert_eq!(second::read(&new).err(), second::read(&plan).err(), "label {label}");
+        every_call(&mut Random::new(label.into()), &new, &format!("label {label}, labels of points 0"));
         let expected = if second::plain(label) { None } else { Some(5) };
         assert_eq!(second::read(&plan).err(), expected, "label {label}");
         every_call(&mut Random::new(label.into()), &plan, &format!("label {label}"));
     }
     compare::print_calls("bounds_that_are_still_accepted");
-}
-
-/// All six calls on a plan that may be refused. An accepted one is only run
-/// as far as it takes to see that both go on with it.
-fn every_call(random: &mut Random, plan: &[u8], case: &str) {
-    let cells = random.pick(&[0, 20, MOST_CELLS, MOST_CELLS]);
-    let lengths =
-        Lengths { first: cells, second: cells, index: cells, output: random.pick(&[0, 100, 2_000]) };
-    let limit = match second::read(plan) {
-        Ok(accepted) if second::run(&accepted, 8, |_, _| ()).verdict == Verdict::Spent => 8,
-        _ => random.pick(&[0, 1, 2, 1 << 32, EVERY_PLAN, u64::MAX]),
-    };
-    compare::check(random, plan, lengths, limit, &case);
-    compare::list(random, plan, lengths, limit, &case);
-    compare::replay(plan, &SOME_LISTING, &case);
-    compare::replay(plan, &[], &case);
-    let table = vec![random.pick(&[0, 1, 999_999, 1_000_000]); cells];
-    let _ = compare::page(random, plan, &table, lengths.output, &case);
-    let links = plan.get(2).map_or(0, |&size| usize::from(size));
-    let classes = vec![random.pick(&[0, 0, 5, 7]); links];
-    compare::check_classes(random, plan, &classes, lengths, limit, &case);
-    breaking_rows(random, plan, lengths, case);
-}
-
-/// There is no limit to the rounds of this call: a plan whose trials take more than
-/// a few is lent too few marks for it, or too short a table.
-fn breaking_rows(random: &mut Random, plan: &[u8], mut lengths: Lengths, case: &str) {
-    let mut marks = random.pick(&[0, 1, 128, 300]);
-    if let Ok(accepted) = second::read(plan) {
-        if trials::left(&accepted, 8).is_none() {
-            marks = accepted.edges.len().saturating_sub(1);
-            lengths.first = if marks == 0 { accepted.cells() - 1 } else { lengths.first };
-        }
-    }
-    let _ = compare::breaking_rows(random, plan, lengths, marks, &case);
 }

@@ -5,6 +5,7 @@ use std::fs;
 use std::path::{Path, PathBuf};
 use std::process::Command;
 use sulgrach_tests::generate::faults::{faulty, FAULTS};
+use sulgrach_tests::generate::point_labels::{in_new_form, labelled};
 use sulgrach_tests::generate::rows::wide;
 use sulgrach_tests::generate::{samples, slow_cycle, Class, Random};
 use sulgrach_tests::library::header::SULGRACH_STACK;
@@ -37,7 +38,7 @@ fn compile(binding: &str) -> PathBuf {
 }
 
 /// Files of plans: those of the repository, a link as wide as class 3, generated
-/// ones, wide ones with links and facts, and refused ones.
+/// ones, wide ones with links and facts, some with labels on points, and refused ones.
 fn plans() -> Vec<PathBuf> {
     let mut files = plan_files();
     let door = vec![2, 0, 1, 0, 0, 1, 0, 2, 0, 25];
@@ -47,7 +48,10 @@ fn plans() -> Vec<PathBuf> {
     {
         plans.extend(samples(class, 5_000_000, count).map(|sample| sample.plan));
     }
-    plans.extend(FAULTS.iter().map(|fault| faulty(&mut Random::new(1), fault)));
+    let with_labels = samples(Class::Decisive, 5_200_000, 20);
+    plans.extend(with_labels.map(|sample| labelled(sample.seed, &sample.plan).bytes()));
+    plans.extend(samples(Class::Dense, 5_200_000, 4).map(|sample| in_new_form(&sample.plan)));
+    plans.extend(faulty_plans());
     let wide = plans
         .iter()
         .filter_map(|plan| second::read(plan).ok())
@@ -67,8 +71,15 @@ fn plans_for_trials() -> Vec<PathBuf> {
         .collect();
     assert!(plans.len() >= 30);
     plans.extend((0..8).map(|seed| wide(&mut Random::new(seed), 4, seed % 2 == 0).0.bytes()));
-    plans.extend(FAULTS.iter().map(|fault| faulty(&mut Random::new(1), fault)));
+    plans.extend(faulty_plans());
     plan_files().into_iter().chain(written("trials", &plans)).collect()
+}
+
+/// Plans for each clause of a refusal, some of them in the old form and some in the
+/// new one.
+fn faulty_plans() -> Vec<Vec<u8>> {
+    let mut random = Random::new(1);
+    FAULTS.iter().flat_map(|fault| [(); 2].map(|()| faulty(&mut random, fault))).collect()
 }
 
 /// Writes the plans to files of this name and their number.
@@ -100,7 +111,8 @@ fn each_call_takes_less_than_the_header_says() {
     for binding in ["now", "lazy"] {
         let program = compile(binding);
         for call in [
-            "check", "classes0", "classes3", "classes7", "list", "replay", "page", "page12", "page13", "rows",
+            "check", "classes0", "classes3", "classes7", "list", "replay", "page", "page12", "page13",
+            "rows", "with", "with7", "without", "without7",
         ] {
             let files = if call == "rows" { &plans_for_trials } else { &plans };
             let measured = measure(&program, call, files);
@@ -121,6 +133,10 @@ fn each_call_takes_less_than_the_header_says() {
                 "page" => vec![DONE, refused(1), refused(5)],
                 "page12" => vec![refused(5), refused(12)],
                 "page13" => vec![refused(5), refused(13)],
+                "with" => vec![DONE, refused(1), refused(5)],
+                "with7" => vec![refused(1), refused(5), refused(7)],
+                "without" => [1, 5, 17, 18, 19].map(refused).into_iter().chain([DONE]).collect(),
+                "without7" => [1, 5, 7, 17, 18, 19].map(refused).to_vec(),
                 _ => vec![DONE, refused(1), refused(5), refused(16)],
             };
             for code in expected {

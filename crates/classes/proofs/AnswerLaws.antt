@@ -12,7 +12,7 @@ use Rattle.plan.specs.Refusal.{every, refusal}
 use Rattle.rounds.specs.Outcomes.{Outcome, refused}
 use Rattle.rounds.specs.AfterCheck.{AfterCheck}
 use Rattle.rounds.proofs.Meanings.{refused-means}
-use Rattle.rounds.proofs.Checking.{at-most, refusal-few}
+use Rattle.plan.proofs.RefusalNumbers.{at-most, refusal-few}
 use Rattle.classes.specs.Classes.{Devices, classesFit, wideEnough, classRefusal, classCheckOutcome, classCheckTable}
 use Rattle.classes.specs.AfterCheckClasses.{AfterCheckClasses}
 
@@ -44,9 +44,9 @@ module _ (D : Devices) (bs cs : List ℕ) where
       }
 
   -- ---- the number of a refusal
-  pub class-refusal-few : classRefusal D bs cs ≤ 15
+  pub class-refusal-few : classRefusal D bs cs ≤ 18
   unfolding classRefusal
   class-refusal-few =
-      at-most 15 (not (eqb (refusal bs) 0)) (refusal bs) _ (omega (arith, refusal-few bs))
-      (at-most 15 (not (classesFit D (planOf bs) cs)) 14 _ (omega arith)
-      (at-most 15 (not (every (wideEnough D (planOf bs) cs) (planOf bs .links))) 15 0 (omega arith) (omega arith)))
+      at-most 18 (not (eqb (refusal bs) 0)) (refusal bs) _ (omega (arith, refusal-few bs))
+      (at-most 18 (not (classesFit D (planOf bs) cs)) 14 _ (omega arith)
+      (at-most 18 (not (every (wideEnough D (planOf bs) cs) (planOf bs .links))) 15 0 (omega arith) (omega arith)))

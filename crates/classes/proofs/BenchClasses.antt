@@ -3,9 +3,9 @@ use mathlib.Core.Path.{_≡_, refl}
 use mathlib.Core.List.{List, [], _∷_, _++_}
 use Prim.Native.Nat.{ℕ}
 use Rattle.plan.specs.Bytes.{byteAt, wordAt}
-use Rattle.plan.specs.Label.{plain}
-use Rattle.plan.specs.Layout.{endsAt, dataAt, edgeRow, upOf, downOf, greatest, mostAt, downAt, largestOf, planOf, spareAt, lengthFor}
-use Rattle.plan.specs.Refusal.{every, differs, sizesFit, observerFits, linkEndsFit, durationFits, linkFits, edgeEndsFit, labelFits, edgeFits, refusalOf, refusal}
+use Rattle.plan.specs.Label.{plain, digit}
+use Rattle.plan.specs.Layout.{endsAt, dataAt, edgeRow, upOf, downOf, greatest, mostAt, downAt, largestOf, planOf, spareAt, lengthFor, labelBytes, labelledLengthFor}
+use Rattle.plan.specs.Refusal.{every, differs, sizesFit, observerFits, linkEndsFit, durationFits, linkFits, edgeEndsFit, labelFits, edgeFits, refusalOf, refusal, some, lengthFits, pointLabelFits, containsLabel, containsObservers, putsAfter, comesAfter, pointWellDefined, edgeWellDefined, linkWellDefined, wellDefined}
 use Rattle.classes.specs.Classes.{houseSeconds, house, classKnown, classesFit, wideEnough, classRefusal}
 
 abbrev ramp : List ℕ
@@ -23,5 +23,5 @@ abbrev judged : List ℕ → List ℕ
 judged bs = classRefusal house bs (4 ∷ []) ∷ classRefusal house bs (0 ∷ []) ∷ classRefusal house bs (7 ∷ []) ∷ classRefusal house bs [] ∷ []
 
 pub ramps : judged ramp ++ judged rampQuick ≡ 0 ∷ 0 ∷ 14 ∷ 14 ∷ 15 ∷ 0 ∷ 14 ∷ 14 ∷ []
-unfolding byteAt wordAt plain endsAt dataAt edgeRow upOf downOf greatest mostAt downAt largestOf planOf spareAt lengthFor every differs sizesFit observerFits linkEndsFit durationFits linkFits edgeEndsFit labelFits edgeFits refusalOf refusal classKnown classesFit wideEnough classRefusal
+unfolding byteAt wordAt digit plain labelBytes endsAt dataAt edgeRow upOf downOf greatest mostAt downAt largestOf planOf spareAt lengthFor every differs sizesFit observerFits linkEndsFit durationFits linkFits edgeEndsFit labelFits edgeFits labelledLengthFor some lengthFits pointLabelFits containsLabel containsObservers putsAfter comesAfter pointWellDefined edgeWellDefined linkWellDefined wellDefined refusalOf refusal classKnown classesFit wideEnough classRefusal
 ramps = refl

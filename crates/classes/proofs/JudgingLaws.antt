@@ -9,7 +9,7 @@ use Rattle.plan.specs.Bytes.{byteAt}
 use Rattle.plan.specs.Plan.{Plan}
 use Rattle.plan.specs.Layout.{planOf}
 use Rattle.plan.specs.Refusal.{every, refusal}
-use Rattle.plan_refusal.proofs.Tests.{denied, granted}
+use Rattle.plan.proofs.Tests.{denied, granted}
 use Rattle.classes.specs.Classes.{Devices, classesFit, wideEnough, classRefusal}
 
 -- ---- a link: c is its class

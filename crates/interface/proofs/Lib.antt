@@ -3,4 +3,5 @@ mod CodeLaws
 mod ListLaws
 mod PageCodes
 mod RowsCodes
+mod ConversionCodes
 mod CheckThenPage

@@ -12,7 +12,9 @@ use Rattle.page.specs.Page.{PageOutcome}
 use Rattle.page.specs.AfterPage.{AfterPage}
 use Rattle.minimal_rows.specs.BreakingRows.{RowsOutcome}
 use Rattle.minimal_rows.specs.AfterBreakingRows.{AfterBreakingRows}
-use Rattle.interface.specs.Codes.{codeOf, countInto, numbersInto, pageCode, pageNumbers, rowsCode, rowsNumbers}
+use Rattle.conversion.specs.Conversion.{ConversionOutcome}
+use Rattle.conversion.specs.AfterConversion.{AfterWithLabels, AfterWithoutLabels}
+use Rattle.interface.specs.Codes.{codeOf, countInto, numbersInto, pageCode, pageNumbers, rowsCode, rowsNumbers, conversionCode, conversionNumbers}
 
 -- sulgrach_check answered with this code
 pub record AfterCheckCall (plan : List ℕ) (limit : ℕ) (first second rounds : Moments) (code : ℕ) : Type 0 where
@@ -49,3 +51,17 @@ pub record AfterBreakingRowsCall (plan : List ℕ) (first second marks numbers :
   pub rows : AfterBreakingRows plan first second marks outcome
   pub code-is : code ≡ rowsCode outcome
   pub numbers-are : numbers .exit ≡ rowsNumbers outcome (numbers .entry)
+
+-- sulgrach_with_labels answered with this code
+pub record AfterWithLabelsCall (plan : List ℕ) (out numbers : Moments) (code : ℕ) : Type 0 where
+  pub outcome : ConversionOutcome
+  pub conversion : AfterWithLabels plan out outcome
+  pub code-is : code ≡ conversionCode outcome
+  pub numbers-are : numbers .exit ≡ conversionNumbers outcome (numbers .entry)
+
+-- sulgrach_without_labels answered with this code
+pub record AfterWithoutLabelsCall (plan : List ℕ) (out numbers : Moments) (code : ℕ) : Type 0 where
+  pub outcome : ConversionOutcome
+  pub conversion : AfterWithoutLabels plan out outcome
+  pub code-is : code ≡ conversionCode outcome
+  pub numbers-are : numbers .exit ≡ conversionNumbers outcome (numbers .entry)

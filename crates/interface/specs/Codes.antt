@@ -5,6 +5,7 @@ use lib.ListN.{set}
 use Rattle.rounds.specs.Outcomes.{Outcome, kept, broken, spent, refused}
 use Rattle.page.specs.Page as page
 use Rattle.minimal_rows.specs.BreakingRows as breaking
+use Rattle.conversion.specs.Conversion as conversion
 
 -- 14.2: the code of an answer
 abbrev pub codeOf : Outcome → ℕ
@@ -50,3 +51,13 @@ rowsCode (breaking.refused n) = 100 + n
 abbrev pub rowsNumbers : breaking.RowsOutcome → List ℕ → List ℕ
 rowsNumbers (breaking.rows n) ns = set ns 0 n
 rowsNumbers (breaking.refused n) ns = ns
+
+-- 14.2: the code of a conversion's answer
+abbrev pub conversionCode : conversion.ConversionOutcome → ℕ
+conversionCode (conversion.converted n) = 0
+conversionCode (conversion.refused n) = 100 + n
+
+-- 14.3: its numbers: the length of the plan in the other form in entry 0; untouched where refused
+abbrev pub conversionNumbers : conversion.ConversionOutcome → List ℕ → List ℕ
+conversionNumbers (conversion.converted n) ns = set ns 0 n
+conversionNumbers (conversion.refused n) ns = ns

@@ -20,7 +20,7 @@ use Rattle.rounds.specs.Outcomes.{Outcome, runOutcome, runTable}
 use Rattle.rounds.specs.Meaning.{enoughRounds}
 use Rattle.rounds.specs.Runs.{RanFromZeros}
 use Rattle.rounds.proofs.Small.{run-length}
-use Rattle.rounds.proofs.Checking.{at-most, refusal-few}
+use Rattle.plan.proofs.RefusalNumbers.{at-most, refusal-few, refusal-never}
 use Rattle.minimal_rows.specs.Trials.{trialOutcome, trialTable, isKept, isBroken, allRows, breakingMarks}
 use Rattle.minimal_rows.specs.BreakingRows.{rows, refused, rowsTooShort, rowsRefusal, rowsOutcome, rowsMarks, rowsTable}
 use Rattle.minimal_rows.specs.AfterBreakingRows.{AfterBreakingRows}
@@ -75,12 +75,12 @@ module _ (bs F G R : List ℕ) where
     number-judged b k = rw (eq-eqb (refusal bs) 0 (lent .accepted), le-ltb (length F) (cells (planOf bs)) (lent .long-first), le-ltb (length G) (cells (planOf bs)) (lent .long-second), le-ltb (length R) (planOf bs .edges) (lent .long-marks), k) refl
 
 -- its number is small
-pub rows-refusal-few : (bs F G R : List ℕ) → rowsRefusal bs F G R ≤ 16
+pub rows-refusal-few : (bs F G R : List ℕ) → rowsRefusal bs F G R ≤ 18
 unfolding rowsRefusal
 rows-refusal-few bs F G R =
     let P = planOf bs in
-    at-most 16 (not (eqb (refusal bs) 0)) (refusal bs) _ (omega (arith, refusal-few bs))
-    (at-most 16 (rowsTooShort P F G R) 6 _ (omega arith) (at-most 16 (isKept (trialOutcome P (allRows P))) 16 0 (omega arith) (omega arith)))
+    at-most 18 (not (eqb (refusal bs) 0)) (refusal bs) _ (omega (arith, refusal-few bs))
+    (at-most 18 (rowsTooShort P F G R) 6 _ (omega arith) (at-most 18 (isKept (trialOutcome P (allRows P))) 16 0 (omega arith) (omega arith)))
 
 -- which length is too short
 module _ (P : Plan) (F G R : List ℕ) where
@@ -95,10 +95,10 @@ module _ (P : Plan) (F G R : List ℕ) where
 
 -- ---- all that the call promises
 module _ (bs : List ℕ) (first second marks : Moments) where
-  -- where it refused with 1 to 6
-  pub after-refusal : (n : ℕ) → rowsRefusal bs (first .entry) (second .entry) (marks .entry) ≡ n → (n ≡ 0 → ⊥) → n < 16 → first .exit ≡ first .entry → second .exit ≡ second .entry → marks .exit ≡ marks .entry → AfterBreakingRows bs first second marks (refused n)
-  after-refusal n e ne few f g m =
-      let table = refused-table bs (first .entry) (second .entry) (marks .entry) n e ne (λ q. omega arith) in
+  -- where it refused with another number than 16
+  pub after-refusal : (n : ℕ) → rowsRefusal bs (first .entry) (second .entry) (marks .entry) ≡ n → (n ≡ 0 → ⊥) → (n ≡ 16 → ⊥) → first .exit ≡ first .entry → second .exit ≡ second .entry → marks .exit ≡ marks .entry → AfterBreakingRows bs first second marks (refused n)
+  after-refusal n e ne other f g m =
+      let table = refused-table bs (first .entry) (second .entry) (marks .entry) n e ne other in
       record {
         outcome-is = refused-outcome bs (first .entry) (second .entry) (marks .entry) n e ne;
         first-is = f ∙ table (first .entry);
@@ -110,10 +110,10 @@ module _ (bs : List ℕ) (first second marks : Moments) where
       }
 
   pub plan-refused : (k : ℕ) → k ≡ refusal bs → (k ≡ 0 → ⊥) → first .exit ≡ first .entry → second .exit ≡ second .entry → marks .exit ≡ marks .entry → AfterBreakingRows bs first second marks (refused k)
-  plan-refused k e n = after-refusal k (number-plan bs (first .entry) (second .entry) (marks .entry) k e n) n (omega (arith, refusal-few bs))
+  plan-refused k e n = after-refusal k (number-plan bs (first .entry) (second .entry) (marks .entry) k e n) n (λ q. refusal-never bs 16 (omega arith) (omega arith) (sym e ∙ q))
 
   pub short-refused : Accepted bs → rowsTooShort (planOf bs) (first .entry) (second .entry) (marks .entry) ≡ true → first .exit ≡ first .entry → second .exit ≡ second .entry → marks .exit ≡ marks .entry → AfterBreakingRows bs first second marks (refused 6)
-  short-refused a s = after-refusal 6 (number-short bs (first .entry) (second .entry) (marks .entry) a s) (λ q. omega arith) (omega arith)
+  short-refused a s = after-refusal 6 (number-short bs (first .entry) (second .entry) (marks .entry) a s) (λ q. omega arith) (λ q. omega arith)
 
   module _ (lent : ReduceLent bs (first .entry) (second .entry) (marks .entry)) where
     abbrev P : Plan

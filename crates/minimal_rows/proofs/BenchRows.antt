@@ -5,7 +5,7 @@ use Prim.Native.Nat.{ℕ}
 use Rattle.plan.specs.Bytes.{byteAt, wordAt}
 use Rattle.plan.specs.Label.{digit, joinDigit, join, plain, clearDigit}
 use Rattle.plan.specs.LinkSet.{contains, union, insert, remove}
-use Rattle.plan.specs.Layout.{endsAt, dataAt, edgeRow, upOf, downOf, greatest, mostAt, downAt, largestOf, planOf}
+use Rattle.plan.specs.Layout.{endsAt, dataAt, edgeRow, upOf, downOf, greatest, mostAt, downAt, largestOf, planOf, labelBytes}
 use Rattle.plan_rows.specs.Rows.{markedFrom}
 use Rattle.rules.specs.Tables.{raiseCell, next}
 use Rattle.minimal_rows.specs.Trials.{tryRow, triedTo, breakingMarks}
@@ -24,9 +24,9 @@ brokenPlans =
     ∷ []
 
 pub later-remains : breakingMarks (planOf late) ≡ 1 ∷ 0 ∷ 1 ∷ []
-unfolding byteAt wordAt digit joinDigit join plain clearDigit contains union insert remove endsAt dataAt edgeRow upOf downOf greatest mostAt downAt largestOf planOf raiseCell next markedFrom tryRow triedTo
+unfolding byteAt wordAt digit joinDigit join plain clearDigit contains union insert remove labelBytes endsAt dataAt edgeRow upOf downOf greatest mostAt downAt largestOf planOf raiseCell next markedFrom tryRow triedTo
 later-remains = refl
 
 pub all-needed : map (λ bs. breakingMarks (planOf bs)) brokenPlans ≡ (1 ∷ 1 ∷ []) ∷ (1 ∷ []) ∷ (1 ∷ []) ∷ (1 ∷ 1 ∷ 1 ∷ []) ∷ []
-unfolding byteAt wordAt digit joinDigit join plain clearDigit contains union insert remove endsAt dataAt edgeRow upOf downOf greatest mostAt downAt largestOf planOf raiseCell next markedFrom tryRow triedTo
+unfolding byteAt wordAt digit joinDigit join plain clearDigit contains union insert remove labelBytes endsAt dataAt edgeRow upOf downOf greatest mostAt downAt largestOf planOf raiseCell next markedFrom tryRow triedTo
 all-needed = refl

@@ -2,6 +2,7 @@
 use mathlib.Core.Path.{_≡_, refl, sym, ap, ap₂}
 use mathlib.Core.Bool.{Bool, true, false, cond, not, _&&_}
 use mathlib.Core.List.{List}
+use mathlib.Core.Logic.{_⊎_, inl, inr, ⊎-elim}
 use Prim.Native.Nat.{ℕ, zero, suc, _*_, _^_, _≤_, _<_, max}
 use native.Mathlib.Nat.{le-refl, le-trans, mul-le-mul, le-max-left, le-max-right}
 use native.Mathlib.Decide.{ℕ-discrete, decLt}
@@ -9,12 +10,12 @@ use native.Mathlib.Omega.{arith}
 use lib.Dec.{T as Is, ltb, eqb, T-not, ltb→lt, leb→le, eqb→eq, not-T}
 use lib.Ieee.Fits.{and-l, and-r, and-i, eq→eqb}
 use lib.ListN.{length}
-use borrow.Author.Tests.{le-ltb, eq-eqb}
+use borrow.Author.Tests.{le-ltb}
 use Rattle.plan.specs.Label.{plain}
 use Rattle.plan.specs.Plan.{Plan, cells}
-use Rattle.plan.specs.Layout.{planOf, greatest, mostAt, downAt, largestOf, lengthFor}
-use Rattle.plan.specs.Refusal.{every, differs, sizesFit, observerFits, linkEndsFit, mostSeconds, durationFits, linkFits, edgeEndsFit, labelFits, edgeFits, refusalOf, refusal, Accepted}
-use Rattle.plan.proofs.Truth.{is-true}
+use Rattle.plan.specs.Layout.{planOf, greatest, mostAt, downAt, largestOf, spareAt, lengthFor, labelledLengthFor}
+use Rattle.plan.specs.Refusal.{every, differs, sizesFit, lengthFits, observerFits, labelFits, pointLabelFits, linkEndsFit, mostSeconds, durationFits, linkFits, edgeEndsFit, edgeFits, wellDefined, refusalOf, refusal, Accepted}
+use Rattle.plan.proofs.Truth.{is-true, or-of, or-left}
 
 -- of any plan, also of one that no bytes stand for: rows lie among the points, durations are ordered, M bounds what a rule adds to a wait,
 -- the horizon is n × M or more, no two propositions have one observing point, no two links one end, and no end observes
@@ -114,27 +115,44 @@ greatest-le f b (suc n) h = omega (arith, greatest-le f b n (λ i k. h i (omega 
 -- ---- what acceptance says, refusal by refusal
 pub record Judged (bs : List ℕ) (P : Plan) : Type 0 where
   pub sizes : Is (sizesFit P)
-  pub long : length bs ≡ lengthFor P
+  pub long : Is (lengthFits bs P)
   pub observers : Is (every (observerFits P) (P .propositions))
+  pub point-labels : Is (every (pointLabelFits P) (P .points))
   pub links-fit : Is (every (linkFits P) (P .links))
   pub edges-fit : Is (every (edgeFits bs P) (P .edges))
+  pub well-defined : Is (wellDefined P)
 
 pub judged : (bs : List ℕ) (P : Plan) → refusalOf bs P ≡ 0 → Judged bs P
 unfolding refusalOf
 judged bs P e =
     let a = past (ltb (length bs) 4) 0 _ e in
     let b = unless (sizesFit P) 1 _ a in
-    let c = unless (eqb (length bs) (lengthFor P)) 0 _ (b .1) in
+    let c = unless (lengthFits bs P) 0 _ (b .1) in
     let d = unless (every (observerFits P) (P .propositions)) 2 _ (c .1) in
-    let f = unless (every (linkFits P) (P .links)) 3 _ (d .1) in
-    let g = unless (every (edgeFits bs P) (P .edges)) 4 0 (f .1) in
-    record { sizes = b .0; long = eqb→eq _ _ (c .0); observers = d .0; links-fit = f .0; edges-fit = g .0 }
+    let l = unless (every (pointLabelFits P) (P .points)) 16 _ (d .1) in
+    let f = unless (every (linkFits P) (P .links)) 3 _ (l .1) in
+    let g = unless (every (edgeFits bs P) (P .edges)) 4 _ (f .1) in
+    let w = unless (wellDefined P) 17 0 (g .1) in
+    record { sizes = b .0; long = c .0; observers = d .0; point-labels = l .0; links-fit = f .0; edges-fit = g .0; well-defined = w .0 }
+
+-- the length is one of two
+pub one-length : (bs : List ℕ) (P : Plan) → Is (lengthFits bs P) → (length bs ≡ lengthFor P) ⊎ (length bs ≡ labelledLengthFor P)
+unfolding lengthFits
+one-length bs P t = ⊎-elim (λ a. inl (eqb→eq _ _ a)) (λ a. inr (eqb→eq _ _ a)) (or-of (eqb (length bs) (lengthFor P)) (eqb (length bs) (labelledLengthFor P)) t)
+
+pub own-length : (bs : List ℕ) (P : Plan) → length bs ≡ lengthFor P → Is (lengthFits bs P)
+unfolding lengthFits
+own-length bs P e = or-left (eqb (length bs) (lengthFor P)) (eqb (length bs) (labelledLengthFor P)) (eq→eqb e)
+
+four-bytes : (bs : List ℕ) (P : Plan) → Is (lengthFits bs P) → 4 ≤ length bs
+unfolding lengthFor labelledLengthFor
+four-bytes bs P t = ⊎-elim (λ e. omega arith) (λ e. omega arith) (one-length bs P t)
 
 -- the converse
 pub judged-none : (bs : List ℕ) (P : Plan) → Judged bs P → refusalOf bs P ≡ 0
-unfolding refusalOf lengthFor
+unfolding refusalOf
 judged-none bs P j =
-    rw (le-ltb (length bs) 4 (omega arith), is-true (sizesFit P) (j .sizes), eq-eqb (length bs) (lengthFor P) (j .long), is-true (every (observerFits P) (P .propositions)) (j .observers), is-true (every (linkFits P) (P .links)) (j .links-fit), is-true (every (edgeFits bs P) (P .edges)) (j .edges-fit))
+    rw (le-ltb (length bs) 4 (four-bytes bs P (j .long)), is-true (sizesFit P) (j .sizes), is-true (lengthFits bs P) (j .long), is-true (every (observerFits P) (P .propositions)) (j .observers), is-true (every (pointLabelFits P) (P .points)) (j .point-labels), is-true (every (linkFits P) (P .links)) (j .links-fit), is-true (every (edgeFits bs P) (P .edges)) (j .edges-fit), is-true (wellDefined P) (j .well-defined))
 
 module _ (bs : List ℕ) (P : Plan) (j : Judged bs P) where
   points-fit : (2 ≤ P .points) × (P .points ≤ 32)
@@ -232,9 +250,6 @@ module _ (bs : List ℕ) where
     unfolding refusal
     fit = judged bs (planOf bs) accepted
 
-    pub accepted-length : length bs ≡ lengthFor (planOf bs)
-    accepted-length = fit .long
-
     pub accepted-well-formed : WellFormed (planOf bs)
     accepted-well-formed = record {
       two = points-fit bs (planOf bs) fit .0;
@@ -253,6 +268,10 @@ module _ (bs : List ℕ) where
       finish-once = once (planOf bs .finish) _ (λ i h. link-fit bs (planOf bs) fit i h .finish-differs);
       finish-observes-none = λ i j h k e. differs-at (planOf bs .observer) (planOf bs .finish i) _ j (link-fit bs (planOf bs) fit i h .finish-unobserved) k (sym e);
     }
+
+    pub accepted-spare : (i : ℕ) → i < planOf bs .edges → spareAt bs i ≡ 0
+    unfolding edgeFits
+    accepted-spare i h = eqb→eq (spareAt bs i) 0 (and-r (edgeEndsFit (planOf bs) i && labelFits (planOf bs) (planOf bs .label i)) (eqb (spareAt bs i) 0) (every-at (edgeFits bs (planOf bs)) _ i (fit .edges-fit) h))
 
     largest-fit : planOf bs .largest ≤ mostSeconds
     largest-fit = largest-under mostSeconds (λ i h. link-fit bs (planOf bs) fit i h .most-fit) (λ i h. edge-fit bs (planOf bs) fit i h .down-fit)

@@ -21,6 +21,7 @@ withHorizon P h =
       up = P .up;
       down = P .down;
       label = P .label;
+      pointLabel = P .pointLabel;
       largest = P .largest;
       horizon = h;
     }

@@ -2,18 +2,32 @@
 use mathlib.Core.Bool.{cond}
 use mathlib.Core.List.{List}
 use Prim.Native.Nat.{ℕ, zero, suc, _+_, _-_, _*_, max}
-use lib.Dec.{ltb}
+use lib.Dec.{ltb, eqb}
+use lib.ListN.{length}
 use Rattle.plan.specs.Bytes.{byteAt, wordAt}
 use Rattle.plan.specs.Plan.{Plan}
+
+-- 3.6: the length that p propositions and some rows ask for, without labels of points
+abbrev pub lengthOf : ℕ → ℕ → ℕ
+lengthOf p rows = 4 + p + 6 * rows
+
+-- 22.1: where the labels of points stand, and how many bytes they take: n where the length is so much longer, else none
+abbrev pub labelsAt : List ℕ → ℕ
+labelsAt bs = 4 + byteAt bs 1
+
+unfoldable pub labelBytes : List ℕ → ℕ
+labelBytes bs =
+    let n = byteAt bs 0 in
+    cond (eqb (length bs) (lengthOf (byteAt bs 1) (byteAt bs 2 + byteAt bs 3) + n)) n 0
 
 -- Rows are counted over both arrays: k links, then e edges.
 -- 3.4: where the two ends of row r stand, in the first array
 unfoldable pub endsAt : List ℕ → ℕ → ℕ
-endsAt bs r = 4 + byteAt bs 1 + 2 * r
+endsAt bs r = labelsAt bs + labelBytes bs + 2 * r
 
 -- 3.5: where the four bytes of row r stand, in the second array
 unfoldable pub dataAt : List ℕ → ℕ → ℕ
-dataAt bs r = 4 + byteAt bs 1 + 2 * (byteAt bs 2 + byteAt bs 3) + 4 * r
+dataAt bs r = endsAt bs (byteAt bs 2 + byteAt bs 3) + 4 * r
 
 -- 3.4: the row of edge i
 unfoldable pub edgeRow : List ℕ → ℕ → ℕ
@@ -42,7 +56,7 @@ downAt bs i = downOf (wordAt bs (dataAt bs (edgeRow bs i)))
 unfoldable pub largestOf : List ℕ → ℕ
 largestOf bs = max (greatest (mostAt bs) (byteAt bs 2)) (greatest (downAt bs) (byteAt bs 3))
 
--- 3.2 to 3.5: the plan that the bytes are
+-- 3.2 to 3.5, 22.1: the plan that the bytes are
 unfoldable pub planOf : List ℕ → Plan
 planOf bs =
     record {
@@ -60,6 +74,7 @@ planOf bs =
       up = λ i. upOf (wordAt bs (dataAt bs (edgeRow bs i)));
       down = downAt bs;
       label = λ i. byteAt bs (dataAt bs (edgeRow bs i) + 2);
+      pointLabel = λ x. cond (ltb x (labelBytes bs)) (byteAt bs (labelsAt bs + x)) 0;
       largest = largestOf bs;
       horizon = byteAt bs 0 * largestOf bs;
     }
@@ -68,6 +83,13 @@ planOf bs =
 unfoldable pub spareAt : List ℕ → ℕ → ℕ
 spareAt bs i = byteAt bs (dataAt bs (edgeRow bs i) + 3)
 
--- 3.6: the length that the sizes ask for
+-- 3.6, 22.1: the lengths that the sizes ask for: without labels of points, and with them
 unfoldable pub lengthFor : Plan → ℕ
-lengthFor P = 4 + P .propositions + 6 * (P .links + P .edges)
+lengthFor P = lengthOf (P .propositions) (P .links + P .edges)
+
+unfoldable pub labelledLengthFor : Plan → ℕ
+labelledLengthFor P = lengthFor P + P .points
+
+-- 22.1: no accepted plan is longer, in bytes
+abbrev pub mostBytes : ℕ
+mostBytes = 832

@@ -4,6 +4,7 @@ pub mod LinkSet
 pub mod Counting
 pub mod Plan
 pub mod Layout
+pub mod Forms
 pub mod Horizons
 pub mod Refusal
 pub mod Moments

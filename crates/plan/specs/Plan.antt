@@ -21,6 +21,8 @@ pub record Plan : Type 0 where
   pub up : ℕ → ℕ
   pub down : ℕ → ℕ
   pub label : ℕ → ℕ
+  -- 22.1: the label of a point
+  pub pointLabel : ℕ → ℕ
   -- 1.5, 1.6: M, and the weight of the horizon edges
   pub largest : ℕ
   pub horizon : ℕ

@@ -6,7 +6,7 @@ ghost use Prim.Native.Nat.{_+_, _<_, _≤_, _^_};
 ghost use Rattle.plan.specs.Moments.{before};
 ghost use Rattle.plan.specs.Bytes.{byteAt};
 ghost use Rattle.plan.specs.Plan.{width as widthOf, cells as cellsOf};
-ghost use Rattle.plan.specs.Layout.{planOf, endsAt, dataAt, edgeRow, spareAt};
+ghost use Rattle.plan.specs.Layout.{planOf, labelsAt, labelBytes, endsAt, dataAt, edgeRow, spareAt, lengthFor};
 
 pub fn points(plan: &[u8]) -> usize
     ensures { λ r. ⌜ (r ≡ planOf (before plan) .points) × (r < 256) ⌝ }
@@ -62,12 +62,51 @@ pub fn observer(plan: &[u8], j: usize) -> usize
     byte_at(plan, 4 + j)
 }
 
+// The length that the sizes ask for without labels of points.
+pub fn length_for(plan: &[u8]) -> usize
+    ensures { λ r. ⌜ (r ≡ lengthFor (planOf (before plan))) × (r < 4096) ⌝ }
+{
+    4 + byte_at(plan, 1) + 6 * (byte_at(plan, 2) + byte_at(plan, 3))
+}
+
+// How many bytes the labels of points take.
+pub fn label_bytes(plan: &[u8]) -> usize
+    ensures { λ r. ⌜ (r ≡ labelBytes (before plan)) × (r < 256) ⌝ }
+{
+    if plan.len() < 4 {
+        return 0;
+    }
+    let n = byte_at(plan, 0);
+    if plan.len() == length_for(plan) + n {
+        return n;
+    }
+    0
+}
+
+// Where the labels of points stand.
+pub fn labels_at(plan: &[u8]) -> usize
+    ensures { λ r. ⌜ (r ≡ labelsAt (before plan)) × (r < 512) ⌝ }
+{
+    4 + byte_at(plan, 1)
+}
+
+// The label of a point, 0 where the plan has none.
+pub fn point_label(plan: &[u8], x: usize) -> usize
+    requires { ⌜ x < 256 ⌝ }
+    ensures { λ r. ⌜ (r ≡ planOf (before plan) .pointLabel x) × (r < 256) ⌝ }
+{
+    if x < label_bytes(plan) {
+        return byte_at(plan, labels_at(plan) + x);
+    }
+    0
+}
+
 // Where the two ends of a row stand.
 pub fn ends_at(plan: &[u8], row: usize) -> usize
     requires { ⌜ row < 512 ⌝ }
-    ensures { λ r. ⌜ (r ≡ endsAt (before plan) row) × (r < 4096) ⌝ }
+    ensures { λ r. ⌜ (r ≡ endsAt (before plan) row) × (r < 2048) ⌝ }
 {
-    4 + byte_at(plan, 1) + 2 * row
+    labels_at(plan) + label_bytes(plan) + 2 * row
 }
 
 // Where the four bytes of a row stand.
@@ -75,7 +114,7 @@ pub fn data_at(plan: &[u8], row: usize) -> usize
     requires { ⌜ row < 512 ⌝ }
     ensures { λ r. ⌜ (r ≡ dataAt (before plan) row) × (r < 4096) ⌝ }
 {
-    4 + byte_at(plan, 1) + 2 * (byte_at(plan, 2) + byte_at(plan, 3)) + 4 * row
+    ends_at(plan, byte_at(plan, 2) + byte_at(plan, 3)) + 4 * row
 }
 
 // The row of an edge: the links come first.
@@ -119,6 +158,21 @@ pub fn edge_from(plan: &[u8], i: usize) -> usize
     ensures { λ r. ⌜ (r ≡ planOf (before plan) .from i) × (r < 256) ⌝ }
 {
     byte_at(plan, ends_at(plan, edge_row(plan, i)))
+}
+
+// Where the ends of edge 0 stand.
+pub fn edges_at(plan: &[u8]) -> usize
+    ensures { λ r. ⌜ (r ≡ endsAt (before plan) (edgeRow (before plan) 0)) × (r < 2048) ⌝ }
+{
+    ends_at(plan, edge_row(plan, 0))
+}
+
+// The start of an edge for loops over edges, which find once where the ends of edge 0 stand.
+pub fn edge_from_at(plan: &[u8], ends: usize, i: usize) -> usize
+    requires { ⌜ (i < 256) × (ends ≡ endsAt (now plan) (edgeRow (now plan) 0)) × (ends < 2048) ⌝ }
+    ensures { λ r. ⌜ (r ≡ planOf (before plan) .from i) × (r < 256) ⌝ }
+{
+    byte_at(plan, ends + 2 * i)
 }
 
 pub fn edge_to(plan: &[u8], i: usize) -> usize

@@ -14,20 +14,26 @@ pub use fields::cells;
 pub use fields::data_at;
 pub use fields::edge_down;
 pub use fields::edge_from;
+pub use fields::edge_from_at;
 pub use fields::edge_label;
 pub use fields::edge_row;
 pub use fields::edge_spare;
 pub use fields::edge_to;
 pub use fields::edge_up;
 pub use fields::edges;
+pub use fields::edges_at;
 pub use fields::ends_at;
+pub use fields::label_bytes;
 pub use fields::labels;
+pub use fields::labels_at;
+pub use fields::length_for;
 pub use fields::link_activation;
 pub use fields::link_finish;
 pub use fields::link_least;
 pub use fields::link_most;
 pub use fields::links;
 pub use fields::observer;
+pub use fields::point_label;
 pub use fields::points;
 pub use fields::propositions;
 pub use fields::width;
@@ -45,3 +51,6 @@ pub use numbers::widen_word;
 
 // No duration and no weight, either way, is longer, in seconds.
 pub const MOST_SECONDS: u64 = 28800;
+
+// No accepted plan is longer, in bytes.
+pub const MOST_BYTES: usize = 832;

@@ -1,4 +1,4 @@
-// Refusals 1 to 5, in their order.
+// Refusals 1 to 5, 17 and 18, in their order.
 use plan::MOST_SECONDS;
 use plan::cells;
 use plan::edge_down;
@@ -8,8 +8,7 @@ use plan::edge_spare;
 use plan::edge_to;
 use plan::edge_up;
 use plan::edges;
-use plan::is_plain;
-use plan::labels;
+use plan::length_for;
 use plan::link_activation;
 use plan::link_finish;
 use plan::link_least;
@@ -19,13 +18,16 @@ use plan::observer;
 use plan::plain_marks;
 use plan::points;
 use plan::propositions;
+use plan_labels::label_fits;
+use plan_labels::point_labels_fit;
+use plan_labels::well_defined;
 ghost use mathlib.Core.Path.{_≡_};
 ghost use mathlib.Core.Bool.{true, false};
 ghost use Prim.Native.Nat.{_+_, _*_, _<_, _≤_};
 ghost use Rattle.plan.specs.Moments.{before};
 ghost use Rattle.plan.specs.Label.{Marks};
-ghost use Rattle.plan.specs.Layout.{planOf, lengthFor};
-ghost use Rattle.plan.specs.Refusal.{every, differs, sizesFit, observerFits, linkEndsFit, durationFits, linkFits, edgeEndsFit, labelFits, edgeFits, refusal as refusalOf};
+ghost use Rattle.plan.specs.Layout.{planOf};
+ghost use Rattle.plan.specs.Refusal.{every, differs, sizesFit, lengthFits, observerFits, linkEndsFit, durationFits, linkFits, edgeEndsFit, edgeFits, refusal as refusalOf};
 
 // The numbers of the refusals.
 const ACCEPTED: u32 = 0;
@@ -42,7 +44,11 @@ const LINK: u32 = 4;
 
 const EDGE: u32 = 5;
 
-// 0 for an accepted plan, or the refusal from 1 to 5.
+const POINT_LABEL: u32 = 17;
+
+const ILL_DEFINED: u32 = 18;
+
+// 0 for an accepted plan, or the number of its refusal.
 pub fn refusal(plan: &[u8]) -> u32
     ensures { λ r. ⌜ r ≡ refusalOf (before plan) ⌝ }
 {
@@ -52,11 +58,14 @@ pub fn refusal(plan: &[u8]) -> u32
     if !sizes_fit(plan) {
         return SIZES;
     }
-    if plan.len() != length_for(plan) {
+    if !length_fits(plan) {
         return LENGTH;
     }
     if !observers_fit(plan) {
         return OBSERVER;
+    }
+    if !point_labels_fit(plan) {
+        return POINT_LABEL;
     }
     if !links_fit(plan) {
         return LINK;
@@ -64,13 +73,20 @@ pub fn refusal(plan: &[u8]) -> u32
     if !edges_fit(plan) {
         return EDGE;
     }
+    if !well_defined(plan) {
+        return ILL_DEFINED;
+    }
     ACCEPTED
 }
 
-fn length_for(plan: &[u8]) -> usize
-    ensures { λ r. ⌜ r ≡ lengthFor (planOf (before plan)) ⌝ }
+fn length_fits(plan: &[u8]) -> bool
+    ensures { λ r. ⌜ r ≡ lengthFits (before plan) (planOf (before plan)) ⌝ }
 {
-    4 + propositions(plan) + 6 * (links(plan) + edges(plan))
+    let end = length_for(plan);
+    if plan.len() == end {
+        return true;
+    }
+    plan.len() == end + points(plan)
 }
 
 fn sizes_fit(plan: &[u8]) -> bool
@@ -230,7 +246,7 @@ fn edge_fits(plan: &[u8], marks: &[u8; 256], i: usize) -> bool
     if !edge_ends_fit(plan, i) {
         return false;
     }
-    if !label_fits(plan, marks, i) {
+    if !label_fits(plan, marks, edge_label(plan, i)) {
         return false;
     }
     edge_spare(plan, i) == 0
@@ -256,16 +272,4 @@ fn edge_ends_fit(plan: &[u8], i: usize) -> bool
         return false;
     }
     edge_down(plan, i) <= MOST_SECONDS
-}
-
-// A label with no digit at p or above is below 4^p.
-fn label_fits(plan: &[u8], marks: &[u8; 256], i: usize) -> bool
-    requires { ⌜ (i < 256) × (planOf (now plan) .propositions ≤ 4) × Marks (now marks) ⌝ }
-    ensures { λ r. ⌜ r ≡ labelFits (planOf (before plan)) i ⌝ }
-{
-    let label = edge_label(plan, i);
-    if labels(plan) <= label {
-        return false;
-    }
-    is_plain(marks, label)
 }

@@ -2,21 +2,22 @@
 use mathlib.Core.Path.{_≡_, refl, sym, ap, ap₂, _∙_}
 use mathlib.Core.List.{List}
 use Prim.Native.Nat.{ℕ, _+_, _*_, _≤_, _<_}
-use native.Mathlib.Nat.{add-zero, add-assoc, mul-le-mul-left}
+use native.Mathlib.Nat.{le-trans, add-zero, add-assoc, mul-le-mul-left}
 use native.Mathlib.Omega.{arith}
-use lib.Dec.{T as Is, le→leb}
-use lib.Ieee.Fits.{and-i}
+use lib.Dec.{T as Is}
 use lib.ListN.{length, getD}
 use Rattle.plan.specs.Bytes.{byteAt, wordAt}
 use Rattle.plan.specs.Plan.{Plan}
-use Rattle.plan.specs.Layout.{endsAt, dataAt, edgeRow, upOf, downOf, mostAt, downAt, planOf, spareAt, lengthFor}
+use Rattle.plan.specs.Layout.{labelsAt, labelBytes, endsAt, dataAt, edgeRow, upOf, downOf, mostAt, downAt, planOf, spareAt, lengthFor}
 use Rattle.plan.specs.Horizons.{planWith}
-use Rattle.plan.specs.Refusal.{sizesFit, observerFits, linkEndsFit, durationFits, linkFits, edgeEndsFit, labelFits, edgeFits, refusal, Accepted}
-use Rattle.plan.proofs.Ranges.{every-at, every-of, every-same, differs-same, Judged, judged, judged-none, largest-under, horizon-is, accepted-well-formed, accepted-bounded}
-use Rattle.plan.proofs.Fewer.{SameEdge, FewerRows}
+use Rattle.plan.specs.Refusal.{lengthFits, refusal, Accepted}
+use Rattle.plan.proofs.Ranges.{judged, judged-none, own-length, largest-under, horizon-is, accepted-well-formed, accepted-bounded, accepted-spare}
+use Rattle.plan.proofs.Fewer.{SameEdge, FewerRows, fewer-trans, fewer-judged}
+use Rattle.plan.proofs.Forms.{labels-absent, label-none}
 use Rattle.plan_rows.specs.Rows.{withRows}
 use Rattle.plan_rows.specs.RowBytes.{RowsIn, rowByte, rowsBytes}
-use Rattle.plan_rows.proofs.RowPlaces.{bytes-length, bytes-at, byte-count, byte-first, byte-end, byte-link, byte-data}
+use Rattle.plan_rows.proofs.SomeRows.{some-of-all}
+use Rattle.plan_rows.proofs.RowPlaces.{bytes-length, bytes-at, byte-count, byte-first, byte-link-end, byte-end, byte-link, byte-data}
 
 -- the other way round, where each edge of P is one of Q
 turned : {Q P : Plan} → FewerRows Q P → ((i : ℕ) → i < P .edges → (j : ℕ) × (j < Q .edges) × SameEdge Q j P i) → FewerRows P Q
@@ -50,42 +51,53 @@ module _ (bs rows : List ℕ) where
   unfolding planOf lengthFor
   byte-in i h = rows-byte i h
 
-  first-is : (i : ℕ) → (i ≡ 3 → ⊥) → i < endsAt bs (edgeRow bs 0) → byteAt new i ≡ byteAt bs i
-  unfolding endsAt edgeRow
+  first-is : (i : ℕ) → (i ≡ 3 → ⊥) → i < labelsAt bs → byteAt new i ≡ byteAt bs i
   first-is i n h = byte-in i (omega arith) ∙ byte-first bs rows i n h
 
   size-is : (i : ℕ) → i < 3 → byteAt new i ≡ byteAt bs i
-  unfolding endsAt
   size-is i h = first-is i (λ e. omega arith) (omega arith)
 
   sizes-are : (byteAt new 1 ≡ byteAt bs 1) × (byteAt new 2 ≡ byteAt bs 2) × (byteAt new 3 ≡ length rows)
   sizes-are = (size-is 1 (omega arith), size-is 2 (omega arith), byte-in 3 (omega arith) ∙ byte-count bs rows 3 refl)
 
+  long-new : length new ≡ lengthFor (planOf new)
+  unfolding planOf lengthFor
+  long-new = let s = sizes-are in rw (s .0, s .1, s .2) rows-length
+
+  -- it has no labels of points
+  no-labels : labelBytes new ≡ 0
+  no-labels = labels-absent new long-new
+
   -- ---- the bytes of a proposition, a link and an edge
   observer-byte : (j : ℕ) → j < byteAt new 1 → byteAt new (4 + j) ≡ byteAt bs (4 + j)
-  unfolding endsAt
   observer-byte j h = let s = sizes-are in first-is (4 + j) (λ e. omega arith) (omega arith)
 
   link-end : (i t : ℕ) → i < byteAt new 2 → t < 2 → byteAt new (endsAt new i + t) ≡ byteAt bs (endsAt bs i + t)
-  unfolding endsAt edgeRow
-  link-end i t h l = let s = sizes-are in rw (s .0) (first-is (endsAt bs i + t) (λ e. omega arith) (omega arith))
+  unfolding endsAt
+  link-end i t h l =
+      let s = sizes-are in
+      let e = no-labels in
+      byte-in (endsAt new i + t) (omega arith) ∙ byte-link-end bs rows (endsAt new i + t) (omega arith) (omega arith) ∙ ap (byteAt bs) (omega arith)
 
   link-datum : (i t : ℕ) → i < byteAt new 2 → t < 4 → byteAt new (dataAt new i + t) ≡ byteAt bs (dataAt bs i + t)
   unfolding endsAt dataAt edgeRow
   link-datum i t h l =
       let s = sizes-are in
+      let e = no-labels in
       byte-in (dataAt new i + t) (omega arith) ∙ byte-link bs rows (dataAt new i + t) (4 * i + t) (omega arith) (omega arith) ∙ ap (byteAt bs) (omega arith)
 
   edge-end : (i t : ℕ) → i < length rows → t < 2 → byteAt new (endsAt new (edgeRow new i) + t) ≡ byteAt bs (endsAt bs (edgeRow bs (getD rows i 0)) + t)
   unfolding endsAt edgeRow
   edge-end i t h l =
       let s = sizes-are in
+      let e = no-labels in
       byte-in (endsAt new (edgeRow new i) + t) (omega arith) ∙ byte-end bs rows (endsAt new (edgeRow new i) + t) i t h l (omega arith)
 
   edge-datum : (i t : ℕ) → i < length rows → t < 4 → byteAt new (dataAt new (edgeRow new i) + t) ≡ byteAt bs (dataAt bs (edgeRow bs (getD rows i 0)) + t)
   unfolding endsAt dataAt edgeRow
   edge-datum i t h l =
       let s = sizes-are in
+      let e = no-labels in
       byte-in (dataAt new (edgeRow new i) + t) (omega arith) ∙ byte-data bs rows (dataAt new (edgeRow new i) + t) i t l (omega arith)
 
   word-is : (x y t : ℕ) → t < 3 → ((j : ℕ) → j < 4 → byteAt new (x + j) ≡ byteAt bs (y + j)) → wordAt new (x + t) ≡ wordAt bs (y + t)
@@ -132,54 +144,20 @@ module _ (bs rows : List ℕ) where
   pub fewer-rows : FewerRows (withRows (planOf bs) rows) (planWith (rowsBytes bs rows) (planOf bs .horizon))
   fewer-rows = turned rows-fewer (λ i h. (i, rw edges-are h, row-is i h))
 
-  -- ---- its tests
-  observer-test : (j : ℕ) → j < planOf new .propositions → observerFits (planOf new) j ≡ observerFits (planOf bs) j
-  unfolding observerFits
-  observer-test j h = let f = rows-fewer in rw (f .points-are, f .observer-is j h, differs-same (planOf new .observer) (planOf bs .observer) (planOf bs .observer j) j (λ i k. f .observer-is i (omega arith)))
-
-  link-test : (i : ℕ) → i < planOf new .links → linkFits (planOf new) i ≡ linkFits (planOf bs) i
-  unfolding linkFits linkEndsFit durationFits
-  link-test i h =
-      let f = rows-fewer in
-      rw (f .points-are, f .activation-is i h, f .finish-is i h, f .least-is i h, f .most-is i h, differs-same (planOf new .observer) (planOf bs .observer) (planOf bs .finish i) (planOf new .propositions) (f .observer-is), f .propositions-are, differs-same (planOf new .finish) (planOf bs .finish) (planOf bs .finish i) i (λ j k. f .finish-is j (omega arith)))
-
-  edge-test : (i : ℕ) → i < length rows → edgeFits new (planOf new) i ≡ edgeFits bs (planOf bs) (getD rows i 0)
-  unfolding edgeFits edgeEndsFit labelFits
-  edge-test i h =
-      let f = rows-fewer in
-      let s = row-is i h in
-      rw (f .points-are, f .propositions-are, s .from-is, s .to-is, s .up-is, s .down-is, s .label-is, spare-is i h)
-
+  -- ---- it is accepted
   module _ (accepted : Accepted bs) (within : RowsIn (planOf bs) rows) where
-    sizes-new : Is (sizesFit (planOf new))
-    unfolding sizesFit
-    sizes-new =
-        let f = rows-fewer in
-        let b = accepted-bounded bs accepted in
-        let w = accepted-well-formed bs accepted in
-        let few : length rows ≤ 128 = omega (arith, within .few) in
-        rw (f .points-are, f .propositions-are, f .links-are, edges-are) (search (and-i, le→leb))
-
-    long-new : length new ≡ lengthFor (planOf new)
-    unfolding lengthFor
-    long-new = let f = rows-fewer in rw (f .propositions-are, f .links-are, edges-are) rows-length
-
-    judged-new : Judged (rowsBytes bs rows) (planOf (rowsBytes bs rows))
-    unfolding refusal
-    judged-new =
-        let f = rows-fewer in
-        let j = judged bs (planOf bs) accepted in
-        record {
-          sizes = sizes-new;
-          long = long-new;
-          observers = rw (every-same (observerFits (planOf new)) (observerFits (planOf bs)) (planOf new .propositions) observer-test, f .propositions-are) (j .observers);
-          links-fit = rw (every-same (linkFits (planOf new)) (linkFits (planOf bs)) (planOf new .links) link-test, f .links-are) (j .links-fit);
-          edges-fit = every-of (edgeFits new (planOf new)) (planOf new .edges) (λ i h. let l = rw edges-are at h in rw (edge-test i l) (every-at (edgeFits bs (planOf bs)) (planOf bs .edges) (getD rows i 0) (j .edges-fit) (within .row-in i l)));
-        }
-
     pub rows-accepted : Accepted (rowsBytes bs rows)
     unfolding refusal
-    rows-accepted = judged-none new (planOf new) judged-new
+    rows-accepted = judged-none new (planOf new) (fewer-judged (planOf new) (planOf bs .horizon) (fewer-trans rows-fewer (some-of-all (planOf bs) rows within)) new bs (judged bs (planOf bs) accepted) few fits spare (λ x. label-none new x (rw no-labels (omega arith))))
+      where
+        few : planOf new .edges ≤ 128
+        few = rw edges-are (le-trans (within .few) (accepted-bounded bs accepted .edges-in))
+
+        fits : Is (lengthFits new (planOf new))
+        fits = own-length new (planOf new) long-new
+
+        spare : (i : ℕ) → i < planOf new .edges → spareAt new i ≡ 0
+        spare i h = let l = rw edges-are at h in spare-is i l ∙ accepted-spare bs accepted (getD rows i 0) (within .row-in i l)
 
     -- ---- its own horizon
     largest-less : planOf new .largest ≤ planOf bs .largest

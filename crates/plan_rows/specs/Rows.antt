@@ -24,6 +24,7 @@ withEdges P n f =
       up = λ i. P .up (f i);
       down = λ i. P .down (f i);
       label = λ i. P .label (f i);
+      pointLabel = P .pointLabel;
       largest = P .largest;
       horizon = P .horizon;
     }

@@ -1,8 +1,10 @@
-// The bytes of a plan with some of its edge rows.
+// The bytes of a plan with some of its edge rows. They have no labels of points: no rule sees these, and with fewer rows they need not fit.
 use plan::byte_at;
 use plan::data_at;
 use plan::edge_row;
 use plan::ends_at;
+use plan::label_bytes;
+use plan::labels_at;
 use plan::links;
 use plan::propositions;
 ghost use mathlib.Core.Path.{_≡_};
@@ -32,17 +34,22 @@ pub fn marked_rows(marks: &[u8], n: usize, numbers: &mut [usize]) -> usize
     count
 }
 
-// Where byte i of the plan with these rows stands in the whole plan.
+// Where byte i of the plan with these rows, and without labels of points, stands in the whole plan.
 fn source_of(plan: &[u8], rows: &[usize], i: usize) -> usize
     requires { ⌜ Accepted (now plan) × RowsIn (planOf (now plan)) (now rows) ⌝ }
     requires { ⌜ i < lengthFor (withRows (planOf (now plan)) (now rows)) ⌝ }
     ensures { λ r. ⌜ r ≡ sourceOf (before plan) (before rows) i ⌝ }
 {
-    let ends = ends_at(plan, edge_row(plan, 0));
+    let labels = labels_at(plan);
+    let links = links(plan);
+    let ends = labels + 2 * links;
     let link_data = ends + 2 * rows.len();
-    let edge_data = link_data + 4 * links(plan);
-    if i < ends {
+    let edge_data = link_data + 4 * links;
+    if i < labels {
         return i;
+    }
+    if i < ends {
+        return label_bytes(plan) + i;
     }
     if i < link_data {
         return ends_at(plan, edge_row(plan, rows[(i - ends) / 2])) + (i - ends) % 2;

@@ -7,8 +7,8 @@ use Rattle.plan.specs.Plan.{cells}
 use Rattle.plan.specs.Bytes.{byteAt, wordAt}
 use Rattle.plan.specs.Label.{digit, joinDigit, join, plain, clearDigit}
 use Rattle.plan.specs.LinkSet.{contains, union, insert, remove}
-use Rattle.plan.specs.Layout.{endsAt, dataAt, edgeRow, upOf, downOf, greatest, mostAt, downAt, largestOf, planOf, spareAt, lengthFor}
-use Rattle.plan.specs.Refusal.{every, differs, sizesFit, observerFits, linkEndsFit, durationFits, linkFits, edgeEndsFit, labelFits, edgeFits, refusalOf, refusal, Accepted}
+use Rattle.plan.specs.Layout.{endsAt, dataAt, edgeRow, upOf, downOf, greatest, mostAt, downAt, largestOf, planOf, spareAt, lengthFor, labelBytes, labelledLengthFor}
+use Rattle.plan.specs.Refusal.{every, differs, sizesFit, observerFits, linkEndsFit, durationFits, linkFits, edgeEndsFit, labelFits, edgeFits, refusalOf, refusal, Accepted, some, lengthFits, pointLabelFits, containsLabel, containsObservers, putsAfter, comesAfter, pointWellDefined, edgeWellDefined, linkWellDefined, wellDefined}
 use Rattle.rules.specs.Tables.{raiseCell, next}
 use Rattle.rounds.specs.Rounds.{zeros}
 use Rattle.rounds.specs.Outcomes.{Outcome, runOutcome, runTable}
@@ -39,7 +39,7 @@ c2-lines =
     ∷ []
 
 accepted : Accepted c2
-unfolding byteAt wordAt digit plain endsAt dataAt edgeRow upOf downOf greatest mostAt downAt largestOf planOf spareAt lengthFor every differs sizesFit observerFits linkEndsFit durationFits linkFits edgeEndsFit labelFits edgeFits refusalOf refusal
+unfolding byteAt wordAt digit plain labelBytes endsAt dataAt edgeRow upOf downOf greatest mostAt downAt largestOf planOf spareAt lengthFor every differs sizesFit observerFits linkEndsFit durationFits linkFits edgeEndsFit labelFits edgeFits labelledLengthFor some lengthFits pointLabelFits containsLabel containsObservers putsAfter comesAfter pointWellDefined edgeWellDefined linkWellDefined wellDefined refusalOf refusal
 accepted = refl
 
 module _ (F G : List ℕ) (f : 2 ≤ length F) (g : 2 ≤ length G) where
@@ -53,7 +53,7 @@ module _ (F G : List ℕ) (f : 2 ≤ length F) (g : 2 ≤ length G) where
 
   -- by computation
   prints : textOf (runOutcome (planOf c2) (zeros (planOf c2)) servingLimit) (planOf c2) left ≡ c2-lines
-  unfolding byteAt wordAt digit joinDigit join plain clearDigit contains union insert remove endsAt dataAt edgeRow upOf downOf greatest mostAt downAt largestOf planOf spareAt lengthFor every differs sizesFit observerFits linkEndsFit durationFits linkFits edgeEndsFit labelFits edgeFits refusalOf refusal raiseCell next digits decimal joined numberedLine firstLine cellText pointLine textOf
+  unfolding byteAt wordAt digit joinDigit join plain clearDigit contains union insert remove labelBytes endsAt dataAt edgeRow upOf downOf greatest mostAt downAt largestOf planOf spareAt lengthFor every differs sizesFit observerFits linkEndsFit durationFits linkFits edgeEndsFit labelFits edgeFits labelledLengthFor some lengthFits pointLabelFits containsLabel containsObservers putsAfter comesAfter pointWellDefined edgeWellDefined linkWellDefined wellDefined refusalOf refusal raiseCell next digits decimal joined numberedLine firstLine cellText pointLine textOf
   prints = refl
 
   pub c2-printed : printed c2 F G ≡ c2-lines

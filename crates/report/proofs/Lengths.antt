@@ -11,7 +11,7 @@ use lib.Dec.{ltb}
 use lib.ListN.{length, getD, drop, length-append, List·getD-append, length-replicate}
 use borrow.Author.Tests.{lt-ltb, le-ltb}
 use Rattle.plan.specs.Plan.{Plan, width, cells}
-use Rattle.plan.specs.Layout.{planOf}
+use Rattle.plan.specs.Layout.{planOf, mostBytes}
 use Rattle.plan.specs.Refusal.{Accepted}
 use Rattle.plan.proofs.Ranges.{accepted-well-formed, accepted-bounded}
 use Rattle.rounds_tables.proofs.RoundLaws.{row-within}
@@ -122,7 +122,7 @@ module _ (bs F G : List ℕ) (limit : ℕ) where
   check-length : limit < 10 ^ 11 → length (textOf (checkOutcome bs F G limit) (planOf bs) (checkTable bs F G limit F)) ≤ 196608
   check-length h = go (refuses-or-runs bs F G limit)
     where
-      go : ((k : ℕ) × (checkOutcome bs F G limit ≡ refused k) × (k ≤ 6)) ⊎ (Accepted bs × (cells (planOf bs) ≤ length F) × (cells (planOf bs) ≤ length G)) → length (textOf (checkOutcome bs F G limit) (planOf bs) (checkTable bs F G limit F)) ≤ 196608
+      go : ((k : ℕ) × (checkOutcome bs F G limit ≡ refused k) × (k ≤ 18)) ⊎ (Accepted bs × (cells (planOf bs) ≤ length F) × (cells (planOf bs) ≤ length G)) → length (textOf (checkOutcome bs F G limit) (planOf bs) (checkTable bs F G limit F)) ≤ 196608
       go (inl (k, e, j)) = rw e (refused-length k (planOf bs) (checkTable bs F G limit F) (omega arith))
       go (inr (a, f, g)) =
           let d = accepted-bounded bs a in
@@ -134,8 +134,8 @@ module _ (bs F G : List ℕ) (limit : ℕ) where
 -- the program's output of 196,608 bytes holds every text
 pub printed-length : (bs F G : List ℕ) → length (printed bs F G) ≤ 196608
 unfolding printed programOutcome programTable
-printed-length bs F G = go (decLe (length bs) 800)
+printed-length bs F G = go (decLe (length bs) mostBytes)
   where
-    go : Dec (length bs ≤ 800) → length (textOf (cond (ltb 800 (length bs)) (refused 1) (checkOutcome bs F G servingLimit)) (planOf bs) (cond (ltb 800 (length bs)) F (checkTable bs F G servingLimit F))) ≤ 196608
-    go (yes h) = rw (le-ltb 800 (length bs) h) (check-length bs F G servingLimit (omega arith))
-    go (no h) = rw (lt-ltb 800 (length bs) (omega arith)) (refused-length 1 (planOf bs) F (omega arith))
+    go : Dec (length bs ≤ mostBytes) → length (textOf (cond (ltb mostBytes (length bs)) (refused 1) (checkOutcome bs F G servingLimit)) (planOf bs) (cond (ltb mostBytes (length bs)) F (checkTable bs F G servingLimit F))) ≤ 196608
+    go (yes h) = rw (le-ltb mostBytes (length bs) h) (check-length bs F G servingLimit (omega arith))
+    go (no h) = rw (lt-ltb mostBytes (length bs) (omega arith)) (refused-length 1 (planOf bs) F (omega arith))

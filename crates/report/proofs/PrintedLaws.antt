@@ -10,7 +10,7 @@ use lib.ListN.{length, take, drop, length-take}
 use lib.Seq.{take-all, take-append-seam}
 use borrow.Author.Tests.{lt-ltb, le-ltb}
 use Rattle.plan.specs.Plan.{Plan, width, cells}
-use Rattle.plan.specs.Layout.{planOf}
+use Rattle.plan.specs.Layout.{planOf, mostBytes}
 use Rattle.plan.specs.Refusal.{Accepted}
 use Rattle.rounds.specs.Outcomes.{Outcome, refused, checkOutcome, checkTable}
 use Rattle.rounds.specs.Meaning.{IsSpent, servingLimit, Meaning}
@@ -52,41 +52,41 @@ module _ (bs F G : List ℕ) where
   unfolding overlaid
   whole {r} {out} {after} p f g s m = record { length-is = p .next-is ∙ zero-add _; output-is = p .after-is ∙ sets-start (printed bs F G) out; first-is = f; second-is = g; never-spent = s; means = m }
 
-  -- ---- over 800 bytes
-  module _ (h : 800 < length bs) where
+  -- ---- over 832 bytes
+  module _ (h : mostBytes < length bs) where
     long-table : (L : List ℕ) → programTable bs F G L ≡ L
     unfolding programTable
-    long-table L = rw (lt-ltb 800 (length bs) h) refl
+    long-table L = rw (lt-ltb mostBytes (length bs) h) refl
 
     long-text : printed bs F G ≡ firstLine (refused 1)
     unfolding printed programOutcome
-    long-text = rw (lt-ltb 800 (length bs) h) (text-refused (refused 1) (planOf bs) (programTable bs F G F) refl)
+    long-text = rw (lt-ltb mostBytes (length bs) h) (text-refused (refused 1) (planOf bs) (programTable bs F G F) refl)
 
     long-outcome : programOutcome bs F G ≡ refused 1
     unfolding programOutcome
-    long-outcome = rw (lt-ltb 800 (length bs) h) refl
+    long-outcome = rw (lt-ltb mostBytes (length bs) h) refl
 
     pub long-reported : {r : ℕ} {out after : List ℕ} → TextPut (firstLine (refused 1)) 0 out r after → Reported r out after F G
     long-reported p = whole (rw long-text p) (sym (long-table F)) (sym (long-table G)) (λ s. rw long-outcome at s) (rw long-outcome (refused-means (planOf bs) servingLimit 1 F G))
 
-  -- ---- at most 800: the check answered o and left F′ and G′
-  module _ (h : length bs ≤ 800) (o : Outcome) (F′ G′ : List ℕ) (k : AfterCheck bs servingLimit (record { entry = F; exit = F′ }) (record { entry = G; exit = G′ }) o) where
+  -- ---- at most 832: the check answered o and left F′ and G′
+  module _ (h : length bs ≤ mostBytes) (o : Outcome) (F′ G′ : List ℕ) (k : AfterCheck bs servingLimit (record { entry = F; exit = F′ }) (record { entry = G; exit = G′ }) o) where
     short-table : (L : List ℕ) → programTable bs F G L ≡ checkTable bs F G servingLimit L
     unfolding programTable
-    short-table L = rw (le-ltb 800 (length bs) h) refl
+    short-table L = rw (le-ltb mostBytes (length bs) h) refl
 
     short-outcome : o ≡ programOutcome bs F G
     unfolding programOutcome
-    short-outcome = rw (le-ltb 800 (length bs) h) (k .outcome-is)
+    short-outcome = rw (le-ltb mostBytes (length bs) h) (k .outcome-is)
 
     short-text : printed bs F G ≡ textOf o (planOf bs) F′
     unfolding printed programOutcome
-    short-text = rw (le-ltb 800 (length bs) h, short-table F, k .outcome-is, k .first-is) refl
+    short-text = rw (le-ltb mostBytes (length bs) h, short-table F, k .outcome-is, k .first-is) refl
 
     accepted-then : isRefused o ≡ false → Accepted bs × (cells (planOf bs) ≤ length F′)
     accepted-then e = go (refuses-or-runs bs F G servingLimit)
       where
-        go : ((n : ℕ) × (checkOutcome bs F G servingLimit ≡ refused n) × (n ≤ 6)) ⊎ (Accepted bs × (cells (planOf bs) ≤ length F) × (cells (planOf bs) ≤ length G)) → Accepted bs × (cells (planOf bs) ≤ length F′)
+        go : ((n : ℕ) × (checkOutcome bs F G servingLimit ≡ refused n) × (n ≤ 18)) ⊎ (Accepted bs × (cells (planOf bs) ≤ length F) × (cells (planOf bs) ≤ length G)) → Accepted bs × (cells (planOf bs) ≤ length F′)
         go (inl (n, q, j)) = absurd (true≢false (sym (ap isRefused (k .outcome-is ∙ q)) ∙ e))
         go (inr (a, f, g)) = (a, subst⁻¹ (λ (L : List ℕ). cells (planOf bs) ≤ length L) (k .first-is) (run-long bs F G servingLimit a f g))
 

@@ -2,6 +2,7 @@
 use crate::lines::is_refused;
 use crate::lines::put_answer;
 use crate::lines::put_points;
+use plan::MOST_BYTES;
 use plan::points;
 use plan::width;
 use rounds::Answer;
@@ -31,7 +32,7 @@ fn put_text(out: &mut [u8], input: &[u8], table: &[u32], answer: Answer) -> usiz
 pub fn report(input: &[u8], first: &mut [u32], second: &mut [u32], out: &mut [u8]) -> usize
     ensures { λ r. ⌜ AfterReport (before input) (moments first) (moments second) (moments out) r ⌝ }
 {
-    if 800 < input.len() {
+    if MOST_BYTES < input.len() {
         return put_answer(out, 0, Answer::Refused(1));
     }
     let answer = check(input, first, second, SERVING_LIMIT);

@@ -7,8 +7,8 @@ use native.Mathlib.Omega.{arith}
 use Rattle.plan.specs.Bytes.{byteAt, wordAt}
 use Rattle.plan.specs.Label.{digit, joinDigit, join, plain, clearDigit}
 use Rattle.plan.specs.LinkSet.{contains, union, insert, remove}
-use Rattle.plan.specs.Layout.{endsAt, dataAt, edgeRow, upOf, downOf, greatest, mostAt, downAt, largestOf, planOf, spareAt, lengthFor}
-use Rattle.plan.specs.Refusal.{every, differs, sizesFit, observerFits, linkEndsFit, durationFits, linkFits, edgeEndsFit, labelFits, edgeFits, refusalOf, refusal}
+use Rattle.plan.specs.Layout.{endsAt, dataAt, edgeRow, upOf, downOf, greatest, mostAt, downAt, largestOf, planOf, spareAt, lengthFor, labelBytes, labelledLengthFor}
+use Rattle.plan.specs.Refusal.{every, differs, sizesFit, observerFits, linkEndsFit, durationFits, linkFits, edgeEndsFit, labelFits, edgeFits, refusalOf, refusal, some, lengthFits, pointLabelFits, containsLabel, containsObservers, putsAfter, comesAfter, pointWellDefined, edgeWellDefined, linkWellDefined, wellDefined}
 use Rattle.rules.specs.Tables.{raiseCell, next}
 use Rattle.rounds.specs.Rounds.{zeros}
 use Rattle.rounds.specs.Meaning.{servingLimit}
@@ -61,7 +61,7 @@ checked limit row =
 
 -- by computation
 with-eight : map (checked 8) rows ≡ map listed rows
-unfolding byteAt wordAt digit joinDigit join plain clearDigit contains union insert remove endsAt dataAt edgeRow upOf downOf greatest mostAt downAt largestOf planOf spareAt lengthFor every differs sizesFit observerFits linkEndsFit durationFits linkFits edgeEndsFit labelFits edgeFits refusalOf refusal raiseCell next
+unfolding byteAt wordAt digit joinDigit join plain clearDigit contains union insert remove labelBytes endsAt dataAt edgeRow upOf downOf greatest mostAt downAt largestOf planOf spareAt lengthFor every differs sizesFit observerFits linkEndsFit durationFits linkFits edgeEndsFit labelFits edgeFits labelledLengthFor some lengthFits pointLabelFits containsLabel containsObservers putsAfter comesAfter pointWellDefined edgeWellDefined linkWellDefined wellDefined refusalOf refusal raiseCell next
 with-eight = refl
 
 module _ (limit : ℕ) (h : 8 ≤ limit) where

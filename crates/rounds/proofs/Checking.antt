@@ -1,22 +1,23 @@
 -- Laws of the check: what it answers and leaves where it refuses, and what rounds from zeros make of the tables.
 use mathlib.Core.Path.{_≡_, refl, sym, ap, ap₂, subst, _∙_}
-use mathlib.Core.Bool.{Bool, true, false, cond, not}
+use mathlib.Core.Bool.{true, false}
 use mathlib.Core.Logic.{_⊎_, inl, inr}
 use mathlib.Core.List.{List, _++_}
 use mathlib.Core.Option.{none}
 use Prim.Native.Nat.{ℕ, _+_, _≤_, _<_}
 use native.Mathlib.Decide.{ℕ-discrete, decLe}
 use native.Mathlib.Omega.{arith}
-use lib.Dec.{ltb, eqb}
+use lib.Dec.{eqb}
 use lib.ListN.{length, getD, take, drop, replicate, length-replicate, List·getD-eq-default}
 use borrow.Author.Tests.{lt-ltb, le-ltb, eq-eqb, ne-eqb}
 use Rattle.plan.specs.Moments.{Moments}
 use Rattle.plan.specs.Plan.{Plan, cells}
-use Rattle.plan.specs.Layout.{planOf, lengthFor}
+use Rattle.plan.specs.Layout.{planOf}
 use Rattle.plan.specs.Horizons.{planWith}
-use Rattle.plan.specs.Refusal.{Accepted, every, sizesFit, observerFits, linkFits, edgeFits, refusalOf, refusal}
+use Rattle.plan.specs.Refusal.{Accepted, refusal}
 use Rattle.plan.proofs.Ranges.{WellFormed, accepted-bounded}
 use Rattle.plan.proofs.Horizons.{own-horizon}
+use Rattle.plan.proofs.RefusalNumbers.{refusal-few}
 use Rattle.rules_fill.specs.Parts.{laidOver}
 use Rattle.rounds.specs.Rounds.{tableFrom, zeros, roundsTo}
 use Rattle.rounds.specs.Outcomes.{Outcome, refused, runOutcome, runTable, tooShort, checkOutcome, checkTable}
@@ -26,6 +27,7 @@ use Rattle.rounds.specs.Runs.{RoomFrom, Ran, ZerosLent, RanFromZeros}
 use Rattle.rounds.proofs.Stopping.{none-runs}
 use Rattle.rounds.proofs.Small.{table-length, table-high}
 use Rattle.rounds.proofs.Meanings.{refused-means, run-means-bytes, decided}
+use Rattle.rounds.proofs.Unlabelled.{unlabelled-check}
 use Rattle.rounds.proofs.RoundsMade.{front-is, back-is}
 
 module _ (bs F G : List ℕ) (limit : ℕ) where
@@ -63,7 +65,7 @@ module _ (bs F G : List ℕ) (limit : ℕ) where
 
 -- all that the check promises, where it refused
 pub after-refusal : (bs : List ℕ) (limit k : ℕ) (first second : Moments) → refused k ≡ checkOutcome bs (first .entry) (second .entry) limit → first .exit ≡ checkTable bs (first .entry) (second .entry) limit (first .entry) → second .exit ≡ checkTable bs (first .entry) (second .entry) limit (second .entry) → AfterCheck bs limit first second (refused k)
-after-refusal bs limit k first second e f g = record { outcome-is = e; first-is = f; second-is = g; means = refused-means (planOf bs) limit k (first .exit) (second .exit); serves = λ h s. s }
+after-refusal bs limit k first second e f g = record { outcome-is = e; first-is = f; second-is = g; means = refused-means (planOf bs) limit k (first .exit) (second .exit); serves = λ h s. s; as-unlabelled = λ a. unlabelled-check bs a limit first second (refused k) e f g }
 
 pub short-first : (P : Plan) (F G : List ℕ) → length F < cells P → tooShort P F G ≡ true
 short-first P F G h = rw (lt-ltb (length F) (cells P) h) refl
@@ -71,26 +73,10 @@ short-first P F G h = rw (lt-ltb (length F) (cells P) h) refl
 pub short-second : (P : Plan) (F G : List ℕ) → cells P ≤ length F → length G < cells P → tooShort P F G ≡ true
 short-second P F G f h = rw (le-ltb (length F) (cells P) f, lt-ltb (length G) (cells P) h) refl
 
--- ---- the number of a refusal from 1 to 5
-pub at-most : (most : ℕ) (b : Bool) (k n : ℕ) → k ≤ most → n ≤ most → cond b k n ≤ most
-at-most most true k n h i = h
-at-most most false k n h i = i
-
-pub refusal-few : (bs : List ℕ) → refusal bs ≤ 5
-unfolding refusal refusalOf
-refusal-few bs =
-    let P = planOf bs in
-    at-most 5 (ltb (length bs) 4) 1 _ (omega arith)
-    (at-most 5 (not (sizesFit P)) 2 _ (omega arith)
-    (at-most 5 (not (eqb (length bs) (lengthFor P))) 1 _ (omega arith)
-    (at-most 5 (not (every (observerFits P) (P .propositions))) 3 _ (omega arith)
-    (at-most 5 (not (every (linkFits P) (P .links))) 4 _ (omega arith)
-    (at-most 5 (not (every (edgeFits bs P) (P .edges))) 5 0 (omega arith) (omega arith))))))
-
 -- ---- the check refuses, or its rounds run
 module _ (bs F G : List ℕ) (limit : ℕ) where
   abbrev Refuses : Type 0
-  Refuses = (k : ℕ) × (checkOutcome bs F G limit ≡ refused k) × (k ≤ 6)
+  Refuses = (k : ℕ) × (checkOutcome bs F G limit ≡ refused k) × (k ≤ 18)
 
   abbrev Runs : Type 0
   Runs = Accepted bs × (cells (planOf bs) ≤ length F) × (cells (planOf bs) ≤ length G)
@@ -148,13 +134,23 @@ own-lent bs h F G accepted own f g = record { accepted = accepted; horizon-far =
 module _ (bs : List ℕ) (accepted : Accepted bs) (limit : ℕ) (o : Outcome) (first second : Moments) (f : cells (planOf bs) ≤ length (first .entry)) (g : cells (planOf bs) ≤ length (second .entry)) where
   zeros-checked : RanFromZeros (planOf bs) limit first second o → AfterCheck bs limit first second o
   zeros-checked r = record {
-    outcome-is = r .outcome-is ∙ sym (check-runs bs (first .entry) (second .entry) limit accepted f g);
-    first-is = r .first-is ∙ sym (check-leaves bs (first .entry) (second .entry) limit accepted f g (first .entry));
-    second-is = r .second-is ∙ sym (check-leaves bs (first .entry) (second .entry) limit accepted f g (second .entry));
+    outcome-is = outcome;
+    first-is = first-table;
+    second-is = second-table;
     means = means;
     serves = decided bs accepted limit o (first .exit) (second .exit) means;
+    as-unlabelled = λ a. unlabelled-check bs a limit first second o outcome first-table second-table;
   }
     where
+      outcome : o ≡ checkOutcome bs (first .entry) (second .entry) limit
+      outcome = r .outcome-is ∙ sym (check-runs bs (first .entry) (second .entry) limit accepted f g)
+
+      first-table : first .exit ≡ checkTable bs (first .entry) (second .entry) limit (first .entry)
+      first-table = r .first-is ∙ sym (check-leaves bs (first .entry) (second .entry) limit accepted f g (first .entry))
+
+      second-table : second .exit ≡ checkTable bs (first .entry) (second .entry) limit (second .entry)
+      second-table = r .second-is ∙ sym (check-leaves bs (first .entry) (second .entry) limit accepted f g (second .entry))
+
       means : Meaning (planOf bs) limit o (first .exit) (second .exit)
       means = rw (r .outcome-is, r .first-is, r .second-is) (run-means-bytes bs accepted limit (drop (cells (planOf bs)) (first .entry)) (drop (cells (planOf bs)) (second .entry)))
 

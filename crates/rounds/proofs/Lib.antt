@@ -5,6 +5,7 @@ pub mod Verdict
 pub mod Meanings
 pub mod Small
 pub mod SameRuns
+pub mod Unlabelled
 pub mod RoundsMade
 pub mod Checking
 mod Bench

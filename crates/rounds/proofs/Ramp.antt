@@ -5,8 +5,8 @@ use Prim.Native.Nat.{ℕ}
 use Rattle.plan.specs.Bytes.{byteAt, wordAt}
 use Rattle.plan.specs.Label.{digit, joinDigit, join, plain, clearDigit}
 use Rattle.plan.specs.LinkSet.{contains, union, insert, remove}
-use Rattle.plan.specs.Layout.{endsAt, dataAt, edgeRow, upOf, downOf, greatest, mostAt, downAt, largestOf, planOf, spareAt, lengthFor}
-use Rattle.plan.specs.Refusal.{every, differs, sizesFit, observerFits, linkEndsFit, durationFits, linkFits, edgeEndsFit, labelFits, edgeFits, refusalOf, refusal}
+use Rattle.plan.specs.Layout.{endsAt, dataAt, edgeRow, upOf, downOf, greatest, mostAt, downAt, largestOf, planOf, spareAt, lengthFor, labelBytes, labelledLengthFor}
+use Rattle.plan.specs.Refusal.{every, differs, sizesFit, observerFits, linkEndsFit, durationFits, linkFits, edgeEndsFit, labelFits, edgeFits, refusalOf, refusal, some, lengthFits, pointLabelFits, containsLabel, containsObservers, putsAfter, comesAfter, pointWellDefined, edgeWellDefined, linkWellDefined, wellDefined}
 use Rattle.rules.specs.Tables.{raiseCell, next}
 use Rattle.rules_panel.specs.Strategies.{NoPanel}
 use Rattle.rounds.specs.Rounds.{zeros}
@@ -20,7 +20,7 @@ ramp = 4 ∷ 1 ∷ 1 ∷ 3 ∷ 2 ∷ 0 ∷ 1 ∷ 2 ∷ 1 ∷ 3 ∷ 0 ∷ 0 ∷ 3
 
 -- by computation
 judged : (refusal ramp ≡ 0) × (runOutcome (planOf ramp) (zeros (planOf ramp)) 4 ≡ broken 4)
-unfolding byteAt wordAt digit joinDigit join plain clearDigit contains union insert remove endsAt dataAt edgeRow upOf downOf greatest mostAt downAt largestOf planOf spareAt lengthFor every differs sizesFit observerFits linkEndsFit durationFits linkFits edgeEndsFit labelFits edgeFits refusalOf refusal raiseCell next
+unfolding byteAt wordAt digit joinDigit join plain clearDigit contains union insert remove labelBytes endsAt dataAt edgeRow upOf downOf greatest mostAt downAt largestOf planOf spareAt lengthFor every differs sizesFit observerFits linkEndsFit durationFits linkFits edgeEndsFit labelFits edgeFits labelledLengthFor some lengthFits pointLabelFits containsLabel containsObservers putsAfter comesAfter pointWellDefined edgeWellDefined linkWellDefined wellDefined refusalOf refusal raiseCell next
 judged = (refl, refl)
 
 pub ramp-no-panel : NoPanel (planOf ramp)

@@ -7,9 +7,9 @@ use native.Mathlib.Omega.{arith}
 use Rattle.plan.specs.Bytes.{byteAt, wordAt}
 use Rattle.plan.specs.Label.{digit, joinDigit, join, plain, clearDigit}
 use Rattle.plan.specs.LinkSet.{contains, union, insert, remove}
-use Rattle.plan.specs.Layout.{endsAt, dataAt, edgeRow, upOf, downOf, greatest, mostAt, downAt, largestOf, planOf, spareAt, lengthFor}
+use Rattle.plan.specs.Layout.{endsAt, dataAt, edgeRow, upOf, downOf, greatest, mostAt, downAt, largestOf, planOf, spareAt, lengthFor, labelBytes, labelledLengthFor}
 use Rattle.plan.specs.Plan.{Plan}
-use Rattle.plan.specs.Refusal.{every, differs, sizesFit, observerFits, linkEndsFit, durationFits, linkFits, edgeEndsFit, labelFits, edgeFits, refusalOf, refusal}
+use Rattle.plan.specs.Refusal.{every, differs, sizesFit, observerFits, linkEndsFit, durationFits, linkFits, edgeEndsFit, labelFits, edgeFits, refusalOf, refusal, some, lengthFits, pointLabelFits, containsLabel, containsObservers, putsAfter, comesAfter, pointWellDefined, edgeWellDefined, linkWellDefined, wellDefined}
 use Rattle.rules.specs.Lines.{below}
 use Rattle.rules.specs.Tables.{raiseCell, next}
 use Rattle.rules_panel.specs.Dramas.{AnyDuration, Drama}
@@ -29,7 +29,7 @@ waits = 0 ∷ 0 ∷ 0 ∷ 0 ∷ 0 ∷ 0 ∷ 0 ∷ 0 ∷ 15 ∷ 0 ∷ 0 ∷ 0 ∷
 
 -- by computation
 judged : (refusal rampQuick ≡ 0) × (runOutcome P (zeros P) 4 ≡ kept 4) × (runTable P (zeros P) 4 ++ [] ≡ waits)
-unfolding byteAt wordAt digit joinDigit join plain clearDigit contains union insert remove endsAt dataAt edgeRow upOf downOf greatest mostAt downAt largestOf planOf spareAt lengthFor every differs sizesFit observerFits linkEndsFit durationFits linkFits edgeEndsFit labelFits edgeFits refusalOf refusal raiseCell next
+unfolding byteAt wordAt digit joinDigit join plain clearDigit contains union insert remove labelBytes endsAt dataAt edgeRow upOf downOf greatest mostAt downAt largestOf planOf spareAt lengthFor every differs sizesFit observerFits linkEndsFit durationFits linkFits edgeEndsFit labelFits edgeFits labelledLengthFor some lengthFits pointLabelFits containsLabel containsObservers putsAfter comesAfter pointWellDefined edgeWellDefined linkWellDefined wellDefined refusalOf refusal raiseCell next
 judged = (refl, refl, refl)
 
 -- whatever the durations and the answers
@@ -38,7 +38,7 @@ followed-waits prefer = subst (λ (T : List ℕ). Followed P T prefer) (judged .
 
 -- ---- a shutter that takes 40 s
 takes40 : Bool → Drama P AnyDuration
-unfolding byteAt wordAt dataAt mostAt planOf
+unfolding byteAt wordAt labelBytes endsAt dataAt mostAt planOf
 takes40 b = record { scenario = λ j. b; situation = λ i. 40; no-shorter = shorter; no-longer = longer; looked-at = λ i h. tt }
   where
     shorter : (i : ℕ) → i < 1 → P .least i ≤ 40
@@ -54,5 +54,5 @@ timesIn b = map (final P waits (λ s answers. 0) (takes40 b) .time) (below 4)
 
 -- alarm, shutter down, poll, jets: by computation
 played : (timesIn true ≡ 0 ∷ 40 ∷ 40 ∷ 180 ∷ []) × (timesIn false ≡ 0 ∷ 40 ∷ 40 ∷ 40 ∷ [])
-unfolding byteAt wordAt digit plain contains endsAt dataAt edgeRow upOf downOf greatest mostAt downAt largestOf planOf every differs first sumOver agrees ended disjoint holdsBack goesBy ready chosen act run takes40
+unfolding byteAt wordAt digit plain contains labelBytes endsAt dataAt edgeRow upOf downOf greatest mostAt downAt largestOf planOf every differs first sumOver agrees ended disjoint holdsBack goesBy ready chosen act run takes40
 played = (refl, refl)

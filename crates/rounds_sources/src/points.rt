@@ -1,8 +1,9 @@
 // Sets of points, a bit for each: from which points' lines the rules give a line of a point.
 use crate::ALL_POINTS;
-use plan::edge_from;
+use plan::edge_from_at;
 use plan::edge_to;
 use plan::edges;
+use plan::edges_at;
 use plan::link_activation;
 use plan::link_finish;
 use plan::links;
@@ -13,7 +14,7 @@ ghost use mathlib.Core.Path.{_≡_};
 ghost use Prim.Native.Nat.{_^_, _<_, _≤_};
 ghost use lib.ListN.{length};
 ghost use Rattle.plan.specs.Moments.{before, after, SameLength};
-ghost use Rattle.plan.specs.Layout.{planOf};
+ghost use Rattle.plan.specs.Layout.{planOf, endsAt, edgeRow};
 ghost use Rattle.plan.specs.Refusal.{Accepted};
 ghost use Rattle.rules_fill.specs.Parts.{laidOver};
 ghost use Rattle.rounds_sources.specs.PointSets.{unionOf};
@@ -26,11 +27,12 @@ fn bit(x: usize) -> usize
     1 << x
 }
 
-fn of_edge(plan: &[u8], x: usize, i: usize) -> usize
+fn of_edge(plan: &[u8], x: usize, ends: usize, i: usize) -> usize
     requires { ⌜ Accepted (now plan) × (i < planOf (now plan) .edges) ⌝ }
+    requires { ⌜ (ends ≡ endsAt (now plan) (edgeRow (now plan) 0)) × (ends < 2048) ⌝ }
     ensures { λ r. ⌜ r ≡ edgeSources (planOf (before plan)) x i ⌝ }
 {
-    if edge_from(plan, i) != x {
+    if edge_from_at(plan, ends, i) != x {
         return 0;
     }
     bit(edge_to(plan, i))
@@ -60,9 +62,10 @@ fn of_edges(plan: &[u8], x: usize) -> usize
     ensures { λ r. ⌜ r ≡ unionOf (edgeSources (planOf (before plan)) x) (planOf (before plan) .edges) ⌝ }
 {
     let n = edges(plan);
+    let ends = edges_at(plan);
     let mut set = 0;
     for i in 0..n {
-        set = set | of_edge(plan, x, i);
+        set = set | of_edge(plan, x, ends, i);
     }
     set
 }

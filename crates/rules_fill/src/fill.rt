@@ -10,8 +10,9 @@ use crate::rows::letter_row;
 use crate::rows::literal_row;
 use crate::rows::lower_row;
 use crate::rows::upper_row;
-use plan::edge_from;
+use plan::edge_from_at;
 use plan::edges;
+use plan::edges_at;
 use plan::link_activation;
 use plan::link_finish;
 use plan::links;
@@ -24,7 +25,7 @@ ghost use mathlib.Core.Path.{_≡_};
 ghost use Prim.Native.Nat.{_<_};
 ghost use lib.Dec.{eqb};
 ghost use Rattle.plan.specs.Moments.{before, after, SameLength};
-ghost use Rattle.plan.specs.Layout.{planOf};
+ghost use Rattle.plan.specs.Layout.{planOf, endsAt, edgeRow};
 ghost use Rattle.plan.specs.Horizons.{planWith};
 ghost use Rattle.rules.specs.Derivations.{InPlan};
 ghost use Rattle.rules.specs.declared.Rule.the-variants as rule;
@@ -64,14 +65,16 @@ fn plan_edge_in(
     width: usize,
     mask: usize,
     x: usize,
+    ends: usize,
     i: usize,
 )
     requires { ⌜ RowsLent (now plan) (now marks) (now first) (now part) width mask ⌝ }
+    requires { ⌜ (ends ≡ endsAt (now plan) (edgeRow (now plan) 0)) × (ends < 2048) ⌝ }
     requires { ⌜ i < planOf (now plan) .edges ⌝ }
     ensures { λ _. ⌜ after part ≡ shapes.fillEdge (planWith (before plan) horizon) (before first) x i (before part) ⌝ }
     ensures { λ _. ⌜ SameLength part ⌝ }
 {
-    if edge_from(plan, i) != x {
+    if edge_from_at(plan, ends, i) != x {
         return;
     }
     let e = Edge::PlanEdge(i);
@@ -93,8 +96,9 @@ fn fill_edges(
     ensures { λ _. ⌜ SameLength part ⌝ }
 {
     let n = edges(plan);
+    let ends = edges_at(plan);
     for i in 0..n {
-        plan_edge_in(plan, marks, horizon, first, part, width, mask, x, i);
+        plan_edge_in(plan, marks, horizon, first, part, width, mask, x, ends, i);
     }
 }
 

@@ -8,7 +8,7 @@ use native.Mathlib.Nat.{le-refl, zero-add, mul-le-mul-left}
 use native.Mathlib.Omega.{arith}
 use Rattle.plan.specs.Bytes.{byteAt, wordAt}
 use Rattle.plan.specs.Label.{digit}
-use Rattle.plan.specs.Layout.{endsAt, dataAt, edgeRow, upOf, downOf, mostAt, downAt, planOf}
+use Rattle.plan.specs.Layout.{endsAt, dataAt, edgeRow, upOf, downOf, mostAt, downAt, planOf, labelBytes}
 use Rattle.plan.specs.Plan.{Plan}
 use Rattle.rules_panel.specs.Dramas.{AnyDuration, Drama, True}
 use Rattle.rules_panel.specs.Strategies.{NoEnd, NotObserving, Strategy, Viable, SameHistory, SamePlace, Panel}
@@ -43,7 +43,7 @@ module _ (q : ℕ) where
   timeOf d b (suc (suc (suc x))) = jets d b
 
   σ : Strategy P AnyDuration
-  unfolding planOf byteAt wordAt endsAt dataAt edgeRow positionOf
+  unfolding planOf byteAt wordAt labelBytes endsAt dataAt edgeRow positionOf
   σ = record {
     time = λ r x. timeOf (r .situation 0) (r .scenario 0) x;
     position = λ r x. positionOf x;
@@ -62,18 +62,18 @@ module _ (q : ℕ) where
 
   -- ---- it keeps the plan
   shutter : (r : Drama P AnyDuration) → q * r .situation 0 ≤ q * 60
-  unfolding planOf byteAt wordAt endsAt dataAt edgeRow mostAt
+  unfolding planOf byteAt wordAt labelBytes endsAt dataAt edgeRow mostAt
   shutter r = mul-le-mul-left q (r .no-longer 0 (omega arith))
 
   keeps-edges : (r : Drama P AnyDuration) (i : ℕ) → i < P .edges → True P (r .scenario) (P .label i) → σ .time r (P .to i) + q * P .down i ≤ σ .time r (P .from i) + q * P .up i
-  unfolding planOf byteAt wordAt endsAt dataAt edgeRow upOf downOf downAt mostAt digit timeOf jets σ
+  unfolding planOf byteAt wordAt labelBytes endsAt dataAt edgeRow upOf downOf downAt mostAt digit timeOf jets σ
   keeps-edges r zero h t = le-refl (q * r .situation 0 + q * 0)
   keeps-edges r (suc zero) h t = rw (t .is-yes 0 (omega arith) refl) (omega arith)
   keeps-edges r (suc (suc zero)) h t = rw (t .is-no 0 (omega arith) refl) (omega (arith, shutter r))
   keeps-edges r (suc (suc (suc i))) h t = absurd (omega arith)
 
   viable : Viable σ q
-  unfolding planOf byteAt wordAt endsAt dataAt edgeRow timeOf σ
+  unfolding planOf byteAt wordAt labelBytes endsAt dataAt edgeRow timeOf σ
   viable = record {
     first-at-start = λ r. refl;
     keeps-edge = keeps-edges;
@@ -90,15 +90,15 @@ module _ (q : ℕ) where
   -- whoever knows that the shutter is down knows how long it took, and, once it has asked, the answer
   module _ (t d : ℕ) (r u : Drama P AnyDuration) (down : q * r .situation 0 ≤ t) (s : SameHistory σ t d r u) where
     same-duration : q * u .situation 0 ≡ q * r .situation 0
-    unfolding planOf byteAt wordAt endsAt dataAt edgeRow timeOf σ
+    unfolding planOf byteAt wordAt labelBytes endsAt dataAt edgeRow timeOf σ
     same-duration = s .ended 0 (q * r .situation 0) .0 (record { link = omega arith; by-then = down; took = omega arith }) .took ∙ zero-add _
 
     same-answer : 1 < d → u .scenario 0 ≡ r .scenario 0
-    unfolding planOf byteAt wordAt endsAt dataAt edgeRow timeOf positionOf σ
+    unfolding planOf byteAt wordAt labelBytes endsAt dataAt edgeRow timeOf positionOf σ
     same-answer k = s .observed 0 (r .scenario 0) .0 (record { proposition = omega arith; by-then = down; before = k; value = refl }) .value
 
   reacts : (r u : Drama P AnyDuration) (x : ℕ) → x < P .points → NoEnd P x → SameHistory σ (σ .time r x) (σ .position r x) r u → SamePlace σ r u x
-  unfolding planOf byteAt wordAt endsAt dataAt edgeRow timeOf jets positionOf σ
+  unfolding planOf byteAt wordAt labelBytes endsAt dataAt edgeRow timeOf jets positionOf σ
   reacts r u zero h n s = record { same-time = refl; same-position = refl }
   reacts r u (suc zero) h n s = absurd (n .no-end 0 (omega arith) refl)
   reacts r u (suc (suc zero)) h n s = record { same-time = same-duration (q * r .situation 0) 1 r u (le-refl _) s; same-position = refl }

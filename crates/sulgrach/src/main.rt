@@ -33,11 +33,11 @@ fn drop_rest() {
     }
 }
 
-// 801 bytes tell that there are over 800. A write that fails ends the program.
+// 833 bytes tell that there are over 832. A write that fails ends the program.
 fn main() {
-    let mut input = [0u8; 801];
+    let mut input = [0u8; 833];
     let n = io::read_full(STDIN_FILENO, &mut input);
-    if n == 801 {
+    if n == 833 {
         drop_rest();
     }
     let mut out = [0u8; 196608];

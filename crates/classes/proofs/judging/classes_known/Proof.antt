@@ -4,7 +4,7 @@ use Prim.Native.Nat.{_-_}
 use native.Mathlib.Omega.{arith}
 use lib.ListN.{length}
 use borrow.Author.Tests.{le-leb, lt-leb}
-use Rattle.plan_refusal.proofs.Tests.{Passed, passed-none, passed-more, passed-all, passed-not}
+use Rattle.plan.proofs.Tests.{Passed, passed-none, passed-more, passed-all, passed-not}
 use Rattle.classes.specs.Classes.{house, classKnown}
 use Rattle.classes.proofs.judging.classes_known.Statement.{statement}
 use Rattle.classes.proofs.judging.classes_known.Tie as tie

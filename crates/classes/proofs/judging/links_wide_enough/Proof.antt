@@ -2,7 +2,7 @@
 use Prim.Native.Nat.{_-_}
 use native.Mathlib.Omega.{arith}
 use Rattle.plan.specs.Layout.{planOf}
-use Rattle.plan_refusal.proofs.Tests.{Passed, passed-none, passed-more, passed-all, passed-not}
+use Rattle.plan.proofs.Tests.{Passed, passed-none, passed-more, passed-all, passed-not}
 use Rattle.classes.specs.Classes.{house, wideEnough}
 use Rattle.classes.proofs.judging.links_wide_enough.Statement.{statement}
 use Rattle.classes.proofs.judging.links_wide_enough.Tie as tie

@@ -10,7 +10,7 @@ use Rattle.plan.specs.Plan.{cells}
 use Rattle.plan.specs.Layout.{planOf}
 use Rattle.plan.specs.Refusal.{every, Accepted}
 use Rattle.plan.proofs.Ranges.{sizes-few, accepted-bounded}
-use Rattle.plan_refusal.proofs.Tests.{denied, granted}
+use Rattle.plan.proofs.Tests.{denied, granted}
 use Rattle.page.specs.Page.{above, waitFits}
 use Rattle.plan.proofs.CountLaws.{count-few}
 use Rattle.page.proofs.AnswerLaws.{by-plan, by-table, by-wait, by-room, printable, answered-printed}

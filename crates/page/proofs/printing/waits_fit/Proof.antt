@@ -4,7 +4,7 @@ use Prim.Native.Nat.{_-_}
 use native.Mathlib.Omega.{arith}
 use borrow.Author.Needs.{needs}
 use borrow.Author.Tests.{le-leb, lt-leb}
-use Rattle.plan_refusal.proofs.Tests.{Passed, passed-none, passed-more, passed-all, passed-not}
+use Rattle.plan.proofs.Tests.{Passed, passed-none, passed-more, passed-all, passed-not}
 use Rattle.page.specs.Page.{waitFits}
 use Rattle.page.proofs.printing.waits_fit.Statement.{statement}
 use Rattle.page.proofs.printing.waits_fit.Tie as tie

@@ -1,11 +1,15 @@
 -- `plan::fields::ends_at` meets its contract.
+use native.Mathlib.Omega.{arith}
 use borrow.Author.Needs.{needs}
 use Rattle.plan.specs.Layout.{endsAt}
 use Rattle.plan.proofs.fields.ends_at.Statement.{statement}
 use Rattle.plan.proofs.fields.ends_at.Tie as tie
 
-byte-at-requires : tie.Need-byte-at-requires
-byte-at-requires c κs = search needs
+labels-at-requires : tie.Need-labels-at-requires
+labels-at-requires c κs = search needs
+
+label-bytes-requires : tie.Need-label-bytes-requires
+label-bytes-requires c κs = search needs
 
 add-result : tie.Need-add-result
 add-result c = search needs
@@ -18,7 +22,9 @@ add-result-2 c = search needs
 
 returns : tie.Need-returns
 unfolding endsAt
-returns c = search needs
+returns c = (omega arith, omega arith)
 
 pub ends-at-spec : {M : Type 1} → statement M
-ends-at-spec = tie.close (tie.spec byte-at-requires add-result mul-result add-result-2 returns)
+ends-at-spec =
+    tie.close
+    (tie.spec labels-at-requires label-bytes-requires add-result mul-result add-result-2 returns)

@@ -2,7 +2,7 @@
 use borrow.Author.Needs.{needs}
 use mathlib.Core.Bool.{and-false}
 use Rattle.plan.specs.Refusal.{edgeFits}
-use Rattle.plan_refusal.proofs.Tests.{denied, granted}
+use Rattle.plan.proofs.Tests.{denied, granted}
 use Rattle.plan_refusal.proofs.refusals.edge_fits.Statement.{statement}
 use Rattle.plan_refusal.proofs.refusals.edge_fits.Tie as tie
 
@@ -13,12 +13,15 @@ returns : tie.Need-returns
 unfolding edgeFits
 returns c = simp (denied (c .before .edge-ends-fit .ensures) (c .if1 .taken))
 
+edge-label-requires : tie.Need-edge-label-requires
+edge-label-requires c κs = search needs
+
 label-fits-requires : tie.Need-label-fits-requires
 label-fits-requires c κs = search needs
 
 returns-2 : tie.Need-returns-2
 unfolding edgeFits
-returns-2 c = simp (denied (c .before .label-fits .ensures) (c .if2 .taken), and-false)
+returns-2 c = simp (← c .before .before .edge-label .ensures .0, denied (c .before .label-fits .ensures) (c .if2 .taken), and-false)
 
 edge-spare-requires : tie.Need-edge-spare-requires
 edge-spare-requires c κs = search needs
@@ -27,7 +30,8 @@ returns-3 : tie.Need-returns-3
 unfolding edgeFits
 returns-3 c =
     let l = c .before .before in
-    simp (granted (l .before .before .edge-ends-fit .ensures) (l .before .if1 .left), granted (l .label-fits .ensures) (c .before .if2 .left), ← c .edge-spare .ensures .0)
+    let a = l .before in
+    simp (granted (a .before .before .edge-ends-fit .ensures) (a .before .if1 .left), ← a .edge-label .ensures .0, granted (l .label-fits .ensures) (c .before .if2 .left), ← c .edge-spare .ensures .0)
 
 pub edge-fits-spec : {M : Type 1} → statement M
 edge-fits-spec =
@@ -35,6 +39,7 @@ edge-fits-spec =
     (tie.spec
     edge-ends-fit-requires
     returns
+    edge-label-requires
     label-fits-requires
     returns-2
     edge-spare-requires

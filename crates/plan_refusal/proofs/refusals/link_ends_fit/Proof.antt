@@ -7,7 +7,7 @@ use native.Mathlib.Omega.{arith}
 use borrow.Author.Tests.{le-ltb, lt-ltb, eq-eqb, ne-eqb}
 use Rattle.plan.specs.Plan.{Plan}
 use Rattle.plan.specs.Refusal.{differs, linkEndsFit}
-use Rattle.plan_refusal.proofs.Tests.{denied, granted}
+use Rattle.plan.proofs.Tests.{denied, granted}
 use Rattle.plan_refusal.proofs.refusals.link_ends_fit.Statement.{statement}
 use Rattle.plan_refusal.proofs.refusals.link_ends_fit.Tie as tie
 

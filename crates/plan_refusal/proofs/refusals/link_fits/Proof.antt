@@ -1,7 +1,7 @@
 -- `plan_refusal::refusals::link_fits` meets its contract: each early return rewrites the test that failed, the last one those that held.
 use borrow.Author.Needs.{needs}
 use Rattle.plan.specs.Refusal.{linkFits}
-use Rattle.plan_refusal.proofs.Tests.{denied, granted}
+use Rattle.plan.proofs.Tests.{denied, granted}
 use Rattle.plan_refusal.proofs.refusals.link_fits.Statement.{statement}
 use Rattle.plan_refusal.proofs.refusals.link_fits.Tie as tie
 

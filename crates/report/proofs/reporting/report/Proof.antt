@@ -1,4 +1,4 @@
--- Over 800 bytes the line of refusal 1; else the text of what the check answers and leaves in the first table.
+-- Over 832 bytes the line of refusal 1; else the text of what the check answers and leaves in the first table.
 use native.Mathlib.Omega.{arith}
 use denote.Ref.{now}
 use borrow.Author.Needs.{needs}

@@ -14,21 +14,24 @@ use Rattle.rules_fill.proofs.fill.fill_edges.Statement.{statement}
 use Rattle.rules_fill.proofs.fill.fill_edges.Tie as tie
 
 abbrev Inv-loop : tie.InvT-loop
-Inv-loop plan marks horizon first part₀ width mask x n i₀ part i = (i ≤ n) × (part ≡ steps (fillEdge (planWith plan horizon) first x) i part₀) × (length part ≡ length part₀)
+Inv-loop plan marks horizon first part₀ width mask x n ends i₀ part i = (i ≤ n) × (part ≡ steps (fillEdge (planWith plan horizon) first x) i part₀) × (length part ≡ length part₀)
 
 abbrev μ-loop : tie.MeasureT-loop
-μ-loop plan marks horizon first part₀ width mask x n i₀ part i = n - i
+μ-loop plan marks horizon first part₀ width mask x n ends i₀ part i = n - i
 
 edges-requires : tie.Need-edges-requires Inv-loop μ-loop
 edges-requires c κs = search needs
+
+edges-at-requires : tie.Need-edges-at-requires Inv-loop μ-loop
+edges-at-requires c κs = search needs
 
 loop-holds : tie.Need-loop-holds Inv-loop μ-loop
 loop-holds c = (omega arith, steps-none _ _, refl)
 
 plan-edge-in-requires : tie.Need-plan-edge-in-requires Inv-loop μ-loop
 plan-edge-in-requires c κs =
-    let p = c .before .before .before .before .before .before .before .pre in
-    (rows-on _ _ _ _ _ _ _ p (c .before .before .loop .inv .2), omega (arith, c .before .before .before .edges .ensures .0))
+    let p = c .before .before .before .before .before .before .before .before .pre in
+    (rows-on _ _ _ _ _ _ _ p (c .before .before .loop .inv .2), (c .before .before .before .edges-at .ensures, omega (arith, c .before .before .before .before .edges .ensures .0)))
 
 add-i : tie.Need-add-i Inv-loop μ-loop
 add-i c = omega arith
@@ -47,7 +50,7 @@ same-length c = c .before .loop .inv .2
 
 returns : tie.Need-returns Inv-loop μ-loop
 unfolding fillEdges
-returns c = (done _ _ _ _ _ (c .before .loop .inv .1) (omega (arith, c .before .before .edges .ensures .0)), c .before .loop .inv .2)
+returns c = (done _ _ _ _ _ (c .before .loop .inv .1) (omega (arith, c .before .before .before .edges .ensures .0)), c .before .loop .inv .2)
 
 pub fill-edges-spec : {M : Type 1} → statement M
 fill-edges-spec =
@@ -56,6 +59,7 @@ fill-edges-spec =
     Inv-loop
     μ-loop
     edges-requires
+    edges-at-requires
     loop-holds
     plan-edge-in-requires
     add-i

@@ -1,0 +1,3 @@
+mod Written
+mod Zeros
+mod Answers
