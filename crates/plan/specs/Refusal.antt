@@ -80,13 +80,18 @@ abbrev pub names : ℕ → ℕ → Bool
 names a j = not (eqb (digit a j) 0)
 
 -- 22.3: label a contains label b: each digit of b that is not 0 is a's digit
+abbrev pub containsDigit : ℕ → ℕ → ℕ → Bool
+containsDigit a b j = not (names b j) || eqb (digit b j) (digit a j)
+
 unfoldable pub containsLabel : Plan → ℕ → ℕ → Bool
-containsLabel P a b = every (λ j. not (names b j) || eqb (digit b j) (digit a j)) (P .propositions)
+containsLabel P a b = every (containsDigit a b) (P .propositions)
 
 -- 22.4: a label contains the label of each observing point that it names
+abbrev pub containsObserver : Plan → ℕ → ℕ → Bool
+containsObserver P a j = not (names a j) || containsLabel P a (P .pointLabel (P .observer j))
+
 unfoldable pub containsObservers : Plan → ℕ → Bool
-containsObservers P a =
-    every (λ j. not (names a j) || containsLabel P a (P .pointLabel (P .observer j))) (P .propositions)
+containsObservers P a = every (containsObserver P a) (P .propositions)
 
 -- 22.5: edge i runs from point x to the observing point of j, with a negative weight and exactly the point's label
 unfoldable pub putsAfter : Plan → ℕ → ℕ → ℕ → Bool
@@ -94,8 +99,11 @@ putsAfter P x j i =
     eqb (P .from i) x && eqb (P .to i) (P .observer j) && ltb 0 (P .down i) && eqb (P .label i) (P .pointLabel x)
 
 -- 22.5: some edge does, for each proposition that the point's label names
+abbrev pub comesAfterAnswer : Plan → ℕ → ℕ → Bool
+comesAfterAnswer P x j = not (names (P .pointLabel x) j) || some (putsAfter P x j) (P .edges)
+
 unfoldable pub comesAfter : Plan → ℕ → Bool
-comesAfter P x = every (λ j. not (names (P .pointLabel x) j) || some (putsAfter P x j) (P .edges)) (P .propositions)
+comesAfter P x = every (comesAfterAnswer P x) (P .propositions)
 
 -- 22.4, 22.5: parts 2a and 2b
 unfoldable pub pointWellDefined : Plan → ℕ → Bool

@@ -17,13 +17,11 @@ use plan::point_label;
 use plan::points;
 use plan::propositions;
 ghost use mathlib.Core.Path.{_≡_};
-ghost use mathlib.Core.Bool.{not, _||_};
 ghost use Prim.Native.Nat.{_<_, _≤_};
-ghost use lib.Dec.{eqb};
 ghost use Rattle.plan.specs.Moments.{before};
-ghost use Rattle.plan.specs.Label.{digit as digitOf, Marks};
+ghost use Rattle.plan.specs.Label.{Marks};
 ghost use Rattle.plan.specs.Layout.{planOf};
-ghost use Rattle.plan.specs.Refusal.{every, some, names, labelFits, pointLabelFits, containsLabel, containsObservers, putsAfter, comesAfter, pointWellDefined, edgeWellDefined, linkWellDefined, wellDefined};
+ghost use Rattle.plan.specs.Refusal.{every, some, labelFits, pointLabelFits, containsDigit, containsLabel, containsObserver, containsObservers, putsAfter, comesAfterAnswer, comesAfter, pointWellDefined, edgeWellDefined, linkWellDefined, wellDefined};
 
 // A label with no digit at p or above is below 4^p.
 pub fn label_fits(plan: &[u8], marks: &[u8; 256], label: usize) -> bool
@@ -69,9 +67,9 @@ pub fn point_labels_fit(plan: &[u8]) -> bool
 }
 
 // Whether digit j of b, if it is not 0, is a's digit.
-fn has_digit(a: usize, b: usize, j: usize) -> bool
+fn contains_digit(a: usize, b: usize, j: usize) -> bool
     requires { ⌜ j < 4 ⌝ }
-    ensures { λ r. ⌜ r ≡ (not (names b j) || eqb (digitOf b j) (digitOf a j)) ⌝ }
+    ensures { λ r. ⌜ r ≡ containsDigit a b j ⌝ }
 {
     let d = digit(b, j);
     if d == 0 {
@@ -86,7 +84,7 @@ fn contains_label(plan: &[u8], a: usize, b: usize) -> bool
 {
     let n = propositions(plan);
     for j in 0..n {
-        if !has_digit(a, b, j) {
+        if !contains_digit(a, b, j) {
             return false;
         }
     }
@@ -96,7 +94,7 @@ fn contains_label(plan: &[u8], a: usize, b: usize) -> bool
 // Whether the label, if it names proposition j, contains the label of its observing point.
 fn contains_observer(plan: &[u8], label: usize, j: usize) -> bool
     requires { ⌜ (planOf (now plan) .propositions ≤ 4) × (j < 4) ⌝ }
-    ensures { λ r. ⌜ r ≡ (not (names label j) || containsLabel (planOf (before plan)) label (planOf (before plan) .pointLabel (planOf (before plan) .observer j))) ⌝ }
+    ensures { λ r. ⌜ r ≡ containsObserver (planOf (before plan)) label j ⌝ }
 {
     if digit(label, j) == 0 {
         return true;
@@ -150,9 +148,9 @@ fn some_puts_after(plan: &[u8], x: usize, j: usize) -> bool
 }
 
 // Whether the point, if its label names proposition j, comes after its observing point.
-fn comes_after_one(plan: &[u8], x: usize, j: usize) -> bool
+fn comes_after_answer(plan: &[u8], x: usize, j: usize) -> bool
     requires { ⌜ (x < 256) × (j < 4) ⌝ }
-    ensures { λ r. ⌜ r ≡ (not (names (planOf (before plan) .pointLabel x) j) || some (putsAfter (planOf (before plan)) x j) (planOf (before plan) .edges)) ⌝ }
+    ensures { λ r. ⌜ r ≡ comesAfterAnswer (planOf (before plan)) x j ⌝ }
 {
     if digit(point_label(plan, x), j) == 0 {
         return true;
@@ -166,7 +164,7 @@ fn comes_after(plan: &[u8], x: usize) -> bool
 {
     let n = propositions(plan);
     for j in 0..n {
-        if !comes_after_one(plan, x, j) {
+        if !comes_after_answer(plan, x, j) {
             return false;
         }
     }

@@ -1,15 +1,14 @@
 -- `plan_labels::labels::contains_observers` meets its contract: the loop's invariant is that the label contains those of the observing points passed that it names.
 use Prim.Native.Nat.{_-_}
 use native.Mathlib.Omega.{arith}
-use mathlib.Core.Bool.{not, _||_}
 use Rattle.plan.specs.Layout.{planOf}
-use Rattle.plan.specs.Refusal.{names, containsLabel, containsObservers}
+use Rattle.plan.specs.Refusal.{containsObserver, containsObservers}
 use Rattle.plan.proofs.Tests.{Passed, passed-none, passed-more, passed-all, passed-not}
 use Rattle.plan_labels.proofs.labels.contains_observers.Statement.{statement}
 use Rattle.plan_labels.proofs.labels.contains_observers.Tie as tie
 
 abbrev Inv-loop : tie.InvT-loop
-Inv-loop plan label n j₀ j = Passed (λ k. not (names label k) || containsLabel (planOf plan) label (planOf plan .pointLabel (planOf plan .observer k))) (planOf plan .propositions) j
+Inv-loop plan label n j₀ j = Passed (containsObserver (planOf plan) label) (planOf plan .propositions) j
 
 abbrev μ-loop : tie.MeasureT-loop
 μ-loop plan label n j₀ j = n - j

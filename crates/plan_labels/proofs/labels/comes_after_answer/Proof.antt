@@ -1,8 +1,8 @@
--- `plan_labels::labels::comes_after_one` meets its contract: a proposition that the label does not name asks nothing, of another an edge is looked for.
+-- `plan_labels::labels::comes_after_answer` meets its contract: a proposition that the label does not name asks nothing, of another an edge is looked for.
 use borrow.Author.Needs.{needs}
 use borrow.Author.Tests.{eq-eqb, ne-eqb}
-use Rattle.plan_labels.proofs.labels.comes_after_one.Statement.{statement}
-use Rattle.plan_labels.proofs.labels.comes_after_one.Tie as tie
+use Rattle.plan_labels.proofs.labels.comes_after_answer.Statement.{statement}
+use Rattle.plan_labels.proofs.labels.comes_after_answer.Tie as tie
 
 point-label-requires : tie.Need-point-label-requires
 point-label-requires c κs = search needs
@@ -21,7 +21,7 @@ returns-2 c =
     let d = c .before .before in
     simp (← d .before .point-label .ensures .0, ← d .digit .ensures, ne-eqb _ _ (c .before .if1 .left)) (c .some-puts-after .ensures)
 
-pub comes-after-one-spec : {M : Type 1} → statement M
-comes-after-one-spec =
+pub comes-after-answer-spec : {M : Type 1} → statement M
+comes-after-answer-spec =
     tie.close
     (tie.spec point-label-requires digit-requires returns some-puts-after-requires returns-2)
