@@ -38,7 +38,7 @@ wideEnough D P cs i =
     let c = byteAt cs i in
     eqb c 0 || (leb (P .least i) (D .least c) && leb (D .most c) (P .most i))
 
--- 19.6: the number of the first refusal that applies, 0 where none does: 1 to 5, then 14, then 15
+-- 19.6: the number of the first refusal that applies, 0 where none does: of the plan, then 14, then 15
 unfoldable pub classRefusal : Devices → List ℕ → List ℕ → ℕ
 classRefusal D bs cs =
     let P = planOf bs in

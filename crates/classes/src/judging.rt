@@ -1,4 +1,4 @@
-// The classes of a plan's links: refusals 14 and 15, after 1 to 5.
+// The classes of a plan's links: refusals 14 and 15, after those of the plan.
 use plan::byte_at;
 use plan::link_least;
 use plan::link_most;
@@ -82,7 +82,7 @@ fn links_wide_enough(plan: &[u8], classes: &[u8]) -> bool
     true
 }
 
-// 0 for a plan that passes, or the refusal: 1 to 5, 14 or 15.
+// 0 for a plan that passes, or the refusal: of the plan, 14 or 15.
 pub fn class_refusal(plan: &[u8], classes: &[u8]) -> u32
     ensures { λ r. ⌜ r ≡ classRefusal house (before plan) (before classes) ⌝ }
 {

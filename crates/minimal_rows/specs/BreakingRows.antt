@@ -27,7 +27,7 @@ outcomeOf (Refused n) = refused n
 abbrev pub rowsTooShort : Plan → List ℕ → List ℕ → List ℕ → Bool
 rowsTooShort P F G R = tooShort P F G || ltb (length R) (P .edges)
 
--- 21.5: the number of the first refusal that applies, 0 where none does: 1 to 5, then 6, then 16 for a plan that is kept
+-- 21.5: the number of the first refusal that applies, 0 where none does: of the plan, then 6, then 16 for a plan that is kept
 unfoldable pub rowsRefusal : List ℕ → List ℕ → List ℕ → List ℕ → ℕ
 rowsRefusal bs F G R =
     let P = planOf bs in

@@ -55,7 +55,7 @@ pub record MarksAre (P : Plan) (ms : List ℕ) (first second marks : Moments) : 
   pub first-tail : TailKept P first
   pub second-tail : TailKept P second
 
--- what the call is lent once 1 to 6 are out of the question
+-- what the call is lent once all refusals but 16 are out of the question
 pub record ReduceLent (plan first second marks : List ℕ) : Type 0 where
   pub accepted : Accepted plan
   pub long-first : cells (planOf plan) ≤ length first

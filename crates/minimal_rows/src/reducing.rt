@@ -148,7 +148,7 @@ fn reduce_broken(plan: &[u8], first: &mut [u32], second: &mut [u32], marks: &mut
     Reduced::Refused(16)
 }
 
-// How many rows remain, with the marks and the tables; refused 1 to 6 nothing is touched, and under 16 the marks are not.
+// How many rows remain, with the marks and the tables; under 16 the marks are not touched, and under any other refusal nothing is.
 pub fn breaking_rows(
     plan: &[u8],
     first: &mut [u32],

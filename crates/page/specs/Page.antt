@@ -43,7 +43,7 @@ abbrev pub outcomeOf : Paged → PageOutcome
 outcomeOf (Printed n) = printed n
 outcomeOf (Refused n) = refused n
 
--- 18.7: 1 to 5, then 6, then 12, then 13
+-- 18.7: of the plan, then 6, then 12, then 13
 unfoldable pub pageOutcome : List ℕ → List ℕ → List ℕ → PageOutcome
 pageOutcome bs T out =
     let P = planOf bs in

@@ -1,4 +1,4 @@
--- When a plan is turned down (4).
+-- When a plan is turned down (4, 22.2 to 22.6).
 use mathlib.Core.Path.{_≡_}
 use mathlib.Core.Bool.{Bool, true, cond, not, _&&_, _||_}
 use mathlib.Core.List.{List}
