@@ -108,9 +108,9 @@ extern "C" {
 /* No page is longer, in bytes. */
 #define SULGRACH_PAGE 360448
 
-/* Each call takes less stack than this, in bytes. Measured, not proved: a call itself took up to 3,256, and the first of
- * a program up to 4,616 where the dynamic linker looks for memset only then (-z lazy). */
-#define SULGRACH_STACK 8192
+/* Each call takes less stack than this, in bytes. Measured, not proved: a call that makes rounds (check, check_classes, list,
+ * breaking_rows) took up to 103,736, most of it lists of cells, whatever the plan; the others took up to 1,256. */
+#define SULGRACH_STACK 131072
 
 /* The check of a plan, with two tables and a limit of rounds; the answer is a code. What is written:
  *

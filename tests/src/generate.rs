@@ -728,6 +728,30 @@ pub fn slow_cycle(points: usize, turn: usize, rounds: i64, both: bool) -> Vec<u8
     draft.bytes()
 }
 
+/// Two of 16 points wait for each other, a second more a turn, for about so many
+/// rounds, in a plan with propositions and links (two at most) that have no part
+/// in it, and with rows that give nothing. With `labelled` the turns are taken
+/// under every plain label.
+pub fn cycle_among(propositions: usize, links: usize, rows: usize, labelled: bool, rounds: i64) -> Vec<u8> {
+    let observing = (5..5 + propositions).collect();
+    let link = |number| Link { activation: 3, end: 10 + number, least: 1, most: 2 };
+    let links = (0..links).map(link).collect();
+    let mut draft = Draft { points: 16, observing, links, edges: vec![] };
+    draft.after(1, 2, 0, 0);
+    draft.after(2, 1, 1, 0);
+    draft.after(15, 0, rounds / 2 / 16, 0);
+    for _ in 0..rows {
+        draft.after(14, 13, 0, 0);
+    }
+    let plain = |label: &u8| (0..propositions).all(|j| label >> (2 * j) & 3 != 3);
+    if labelled {
+        for label in (1..=255).take_while(|&label| u32::from(label) < 1 << (2 * propositions)).filter(plain) {
+            draft.after(1, 0, 1, label);
+        }
+    }
+    draft.bytes()
+}
+
 /// Cycles of more rounds than 16 bits count, and of more than plans of so many
 /// points took before timers became long.
 pub fn long_cycles() -> [Vec<u8>; 2] {

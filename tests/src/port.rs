@@ -1,8 +1,9 @@
 // A port of the Rattle code that `rounds::check` runs, line by line, to safe Rust with its ordinary bounds checks: the same
 // functions with the same names, the same loops in the same order, a module for each crate and each file. It is for the benchmark
 // alone, which compares compiled Rattle with Rust; nothing here is proved.
-// The contracts are left out, and so are the functions that the check does not reach. Two things are added because Rust asks for
-// them: the rows of rules are `Copy`, and a parameter that only a contract names has an underscore.
+// The contracts are left out, and so are the functions that the check does not reach. Three things are added because Rust asks for
+// them: the rows of rules are `Copy`, a parameter that only a contract names has an underscore, and a field that nothing here reads
+// is marked.
 
 use self::rounds::Answer;
 
@@ -27,21 +28,26 @@ mod plan {
     pub use self::fields::edge_to;
     pub use self::fields::edge_up;
     pub use self::fields::edges;
+    pub use self::fields::label_bytes;
     pub use self::fields::labels;
+    pub use self::fields::length_for;
     pub use self::fields::link_activation;
     pub use self::fields::link_finish;
     pub use self::fields::link_least;
     pub use self::fields::link_most;
     pub use self::fields::links;
     pub use self::fields::observer;
+    pub use self::fields::point_label;
     pub use self::fields::points;
     pub use self::fields::propositions;
     pub use self::fields::width;
+    pub use self::label::digit;
     pub use self::label::is_plain;
     pub use self::marks::plain_marks;
     pub use self::numbers::cell_at;
     pub use self::numbers::lesser;
     pub use self::numbers::widen_cell;
+    pub use self::numbers::widen_word;
 
     // No duration and no weight, either way, is longer, in seconds.
     pub const MOST_SECONDS: u64 = 28800;
@@ -140,18 +146,48 @@ mod plan {
             byte_at(plan, 4 + j)
         }
 
+        // The length that the sizes ask for without labels of points.
+        pub fn length_for(plan: &[u8]) -> usize {
+            4 + byte_at(plan, 1) + 6 * (byte_at(plan, 2) + byte_at(plan, 3))
+        }
+
+        // How many bytes the labels of points take.
+        pub fn label_bytes(plan: &[u8]) -> usize {
+            if plan.len() < 4 {
+                return 0;
+            }
+            let n = byte_at(plan, 0);
+            if plan.len() == length_for(plan) + n {
+                return n;
+            }
+            0
+        }
+
+        // Where the labels of points stand.
+        pub fn labels_at(plan: &[u8]) -> usize {
+            4 + byte_at(plan, 1)
+        }
+
+        // The label of a point, 0 where the plan has none.
+        pub fn point_label(plan: &[u8], x: usize) -> usize {
+            if x < label_bytes(plan) {
+                return byte_at(plan, labels_at(plan) + x);
+            }
+            0
+        }
+
         // Where the two ends of a row stand.
-        fn ends_at(plan: &[u8], row: usize) -> usize {
-            4 + byte_at(plan, 1) + 2 * row
+        pub fn ends_at(plan: &[u8], row: usize) -> usize {
+            labels_at(plan) + label_bytes(plan) + 2 * row
         }
 
         // Where the four bytes of a row stand.
-        fn data_at(plan: &[u8], row: usize) -> usize {
-            4 + byte_at(plan, 1) + 2 * (byte_at(plan, 2) + byte_at(plan, 3)) + 4 * row
+        pub fn data_at(plan: &[u8], row: usize) -> usize {
+            ends_at(plan, byte_at(plan, 2) + byte_at(plan, 3)) + 4 * row
         }
 
         // The row of an edge: the links come first.
-        fn edge_row(plan: &[u8], i: usize) -> usize {
+        pub fn edge_row(plan: &[u8], i: usize) -> usize {
             byte_at(plan, 2) + i
         }
 
@@ -218,6 +254,10 @@ mod plan {
         pub fn is_plain(marks: &[u8; 256], label: usize) -> bool {
             marks[label] == 1
         }
+
+        pub fn digit(label: usize, j: usize) -> usize {
+            label >> (2 * j) & 3
+        }
     }
 
     // The table of marks: 1 for a label byte none of whose four base-4 digits is 3, else 0.
@@ -243,6 +283,10 @@ mod plan {
     // Numbers of other widths, and the lesser and the greater of two.
     mod numbers {
         pub fn widen_byte(x: u8) -> usize {
+            x as usize
+        }
+
+        pub fn widen_word(x: u16) -> usize {
             x as usize
         }
 
@@ -273,11 +317,222 @@ mod plan {
     }
 }
 
-// Refusals 1 to 5 of a plan.
+// Labels of edges and points: each by itself, and whether the network is well-defined with them.
+mod plan_labels {
+    pub use self::labels::label_fits;
+    pub use self::labels::point_labels_fit;
+    pub use self::labels::well_defined;
+
+    // Labels of points: each by itself, and whether the network is well-defined with them.
+    mod labels {
+        use super::super::plan::digit;
+        use super::super::plan::edge_down;
+        use super::super::plan::edge_from;
+        use super::super::plan::edge_label;
+        use super::super::plan::edge_to;
+        use super::super::plan::edges;
+        use super::super::plan::is_plain;
+        use super::super::plan::label_bytes;
+        use super::super::plan::labels;
+        use super::super::plan::link_activation;
+        use super::super::plan::link_finish;
+        use super::super::plan::links;
+        use super::super::plan::observer;
+        use super::super::plan::plain_marks;
+        use super::super::plan::point_label;
+        use super::super::plan::points;
+        use super::super::plan::propositions;
+
+        // A label with no digit at p or above is below 4^p.
+        pub fn label_fits(plan: &[u8], marks: &[u8; 256], label: usize) -> bool {
+            if labels(plan) <= label {
+                return false;
+            }
+            is_plain(marks, label)
+        }
+
+        fn point_label_fits(plan: &[u8], marks: &[u8; 256], x: usize) -> bool {
+            let label = point_label(plan, x);
+            if !label_fits(plan, marks, label) {
+                return false;
+            }
+            if 0 < x {
+                return true;
+            }
+            label == 0
+        }
+
+        // A plan without labels of points passes.
+        pub fn point_labels_fit(plan: &[u8]) -> bool {
+            if label_bytes(plan) == 0 {
+                return true;
+            }
+            let marks = plain_marks();
+            let n = points(plan);
+            for x in 0..n {
+                if !point_label_fits(plan, &marks, x) {
+                    return false;
+                }
+            }
+            true
+        }
+
+        // Whether digit j of b, if it is not 0, is a's digit.
+        fn contains_digit(a: usize, b: usize, j: usize) -> bool {
+            let d = digit(b, j);
+            if d == 0 {
+                return true;
+            }
+            d == digit(a, j)
+        }
+
+        fn contains_label(plan: &[u8], a: usize, b: usize) -> bool {
+            let n = propositions(plan);
+            for j in 0..n {
+                if !contains_digit(a, b, j) {
+                    return false;
+                }
+            }
+            true
+        }
+
+        // Whether the label, if it names proposition j, contains the label of its observing point.
+        fn contains_observer(plan: &[u8], label: usize, j: usize) -> bool {
+            if digit(label, j) == 0 {
+                return true;
+            }
+            contains_label(plan, label, point_label(plan, observer(plan, j)))
+        }
+
+        fn contains_observers(plan: &[u8], label: usize) -> bool {
+            let n = propositions(plan);
+            for j in 0..n {
+                if !contains_observer(plan, label, j) {
+                    return false;
+                }
+            }
+            true
+        }
+
+        // Whether edge i runs from point x to the observing point of j, with a negative weight and exactly the point's label.
+        fn puts_after(plan: &[u8], x: usize, j: usize, i: usize) -> bool {
+            let start = edge_from(plan, i);
+            let end = edge_to(plan, i);
+            if start != x {
+                return false;
+            }
+            if end != observer(plan, j) {
+                return false;
+            }
+            if edge_down(plan, i) == 0 {
+                return false;
+            }
+            edge_label(plan, i) == point_label(plan, x)
+        }
+
+        fn some_puts_after(plan: &[u8], x: usize, j: usize) -> bool {
+            let n = edges(plan);
+            for i in 0..n {
+                if puts_after(plan, x, j, i) {
+                    return true;
+                }
+            }
+            false
+        }
+
+        // Whether the point, if its label names proposition j, comes after its observing point.
+        fn comes_after_answer(plan: &[u8], x: usize, j: usize) -> bool {
+            if digit(point_label(plan, x), j) == 0 {
+                return true;
+            }
+            some_puts_after(plan, x, j)
+        }
+
+        fn comes_after(plan: &[u8], x: usize) -> bool {
+            let n = propositions(plan);
+            for j in 0..n {
+                if !comes_after_answer(plan, x, j) {
+                    return false;
+                }
+            }
+            true
+        }
+
+        fn point_well_defined(plan: &[u8], x: usize) -> bool {
+            if !contains_observers(plan, point_label(plan, x)) {
+                return false;
+            }
+            comes_after(plan, x)
+        }
+
+        fn edge_well_defined(plan: &[u8], i: usize) -> bool {
+            let label = edge_label(plan, i);
+            if !contains_label(plan, label, point_label(plan, edge_from(plan, i))) {
+                return false;
+            }
+            if !contains_label(plan, label, point_label(plan, edge_to(plan, i))) {
+                return false;
+            }
+            contains_observers(plan, label)
+        }
+
+        fn link_well_defined(plan: &[u8], i: usize) -> bool {
+            let a = link_activation(plan, i);
+            let c = link_finish(plan, i);
+            point_label(plan, a) == point_label(plan, c)
+        }
+
+        fn edges_well_defined(plan: &[u8]) -> bool {
+            let n = edges(plan);
+            for i in 0..n {
+                if !edge_well_defined(plan, i) {
+                    return false;
+                }
+            }
+            true
+        }
+
+        fn points_well_defined(plan: &[u8]) -> bool {
+            let n = points(plan);
+            for x in 0..n {
+                if !point_well_defined(plan, x) {
+                    return false;
+                }
+            }
+            true
+        }
+
+        fn links_well_defined(plan: &[u8]) -> bool {
+            let n = links(plan);
+            for i in 0..n {
+                if !link_well_defined(plan, i) {
+                    return false;
+                }
+            }
+            true
+        }
+
+        // A plan without labels of points is.
+        pub fn well_defined(plan: &[u8]) -> bool {
+            if label_bytes(plan) == 0 {
+                return true;
+            }
+            if !edges_well_defined(plan) {
+                return false;
+            }
+            if !points_well_defined(plan) {
+                return false;
+            }
+            links_well_defined(plan)
+        }
+    }
+}
+
+// Refusals 1 to 5, 17 and 18 of a plan.
 mod plan_refusal {
     pub use self::refusals::refusal;
 
-    // Refusals 1 to 5, in their order.
+    // Refusals 1 to 5, 17 and 18, in their order.
     mod refusals {
         use super::super::plan::cells;
         use super::super::plan::edge_down;
@@ -287,8 +542,7 @@ mod plan_refusal {
         use super::super::plan::edge_to;
         use super::super::plan::edge_up;
         use super::super::plan::edges;
-        use super::super::plan::is_plain;
-        use super::super::plan::labels;
+        use super::super::plan::length_for;
         use super::super::plan::link_activation;
         use super::super::plan::link_finish;
         use super::super::plan::link_least;
@@ -299,6 +553,9 @@ mod plan_refusal {
         use super::super::plan::points;
         use super::super::plan::propositions;
         use super::super::plan::MOST_SECONDS;
+        use super::super::plan_labels::label_fits;
+        use super::super::plan_labels::point_labels_fit;
+        use super::super::plan_labels::well_defined;
 
         // The numbers of the refusals.
         const ACCEPTED: u32 = 0;
@@ -315,7 +572,11 @@ mod plan_refusal {
 
         const EDGE: u32 = 5;
 
-        // 0 for an accepted plan, or the refusal from 1 to 5.
+        const POINT_LABEL: u32 = 17;
+
+        const ILL_DEFINED: u32 = 18;
+
+        // 0 for an accepted plan, or the number of its refusal.
         pub fn refusal(plan: &[u8]) -> u32 {
             if plan.len() < 4 {
                 return SHORT;
@@ -323,11 +584,14 @@ mod plan_refusal {
             if !sizes_fit(plan) {
                 return SIZES;
             }
-            if plan.len() != length_for(plan) {
+            if !length_fits(plan) {
                 return LENGTH;
             }
             if !observers_fit(plan) {
                 return OBSERVER;
+            }
+            if !point_labels_fit(plan) {
+                return POINT_LABEL;
             }
             if !links_fit(plan) {
                 return LINK;
@@ -335,11 +599,18 @@ mod plan_refusal {
             if !edges_fit(plan) {
                 return EDGE;
             }
+            if !well_defined(plan) {
+                return ILL_DEFINED;
+            }
             ACCEPTED
         }
 
-        fn length_for(plan: &[u8]) -> usize {
-            4 + propositions(plan) + 6 * (links(plan) + edges(plan))
+        fn length_fits(plan: &[u8]) -> bool {
+            let end = length_for(plan);
+            if plan.len() == end {
+                return true;
+            }
+            plan.len() == end + points(plan)
         }
 
         fn sizes_fit(plan: &[u8]) -> bool {
@@ -469,7 +740,7 @@ mod plan_refusal {
             if !edge_ends_fit(plan, i) {
                 return false;
             }
-            if !label_fits(plan, marks, i) {
+            if !label_fits(plan, marks, edge_label(plan, i)) {
                 return false;
             }
             edge_spare(plan, i) == 0
@@ -493,477 +764,27 @@ mod plan_refusal {
             }
             edge_down(plan, i) <= MOST_SECONDS
         }
-
-        // A label with no digit at p or above is below 4^p.
-        fn label_fits(plan: &[u8], marks: &[u8; 256], i: usize) -> bool {
-            let label = edge_label(plan, i);
-            if labels(plan) <= label {
-                return false;
-            }
-            is_plain(marks, label)
-        }
     }
 }
 
-// The edges of rule 1.
-mod rules {
-    use super::plan::edge_down;
-    use super::plan::edge_from;
-    use super::plan::edge_label;
-    use super::plan::edge_to;
-    use super::plan::edge_up;
-    use super::plan::link_activation;
-    use super::plan::link_finish;
-    use super::plan::link_least;
-    use super::plan::link_most;
-
-    // An edge of rule 1: a plan edge by its number, the horizon edge to a point, or one of a link's two, by the link's number.
-    #[derive(Clone, Copy)]
-    pub enum Edge {
-        PlanEdge(usize),
-        HorizonEdge(usize),
-        UpperBound(usize),
-        LowerBound(usize),
-    }
-
-    // What an edge says: from X to Y, under a label, Y - X is at most the weight. The weight is up less down.
-    #[derive(Clone, Copy)]
-    pub struct Constraint {
-        #[allow(dead_code)] // the check knows where the edges that it follows start
-        pub from: usize,
-        pub to: usize,
-        pub label: usize,
-        pub up: u64,
-        pub down: u64,
-    }
-
-    // The horizon is handed in: to find it anew would read every row.
-    pub fn constraint_of(plan: &[u8], horizon: u64, e: Edge) -> Constraint {
-        match e {
-            Edge::PlanEdge(i) => Constraint {
-                from: edge_from(plan, i),
-                to: edge_to(plan, i),
-                label: edge_label(plan, i),
-                up: edge_up(plan, i),
-                down: edge_down(plan, i),
-            },
-            Edge::HorizonEdge(x) => Constraint { from: 0, to: x, label: 0, up: horizon, down: 0 },
-            Edge::UpperBound(i) => Constraint {
-                from: link_activation(plan, i),
-                to: link_finish(plan, i),
-                label: 0,
-                up: link_most(plan, i),
-                down: 0,
-            },
-            Edge::LowerBound(i) => Constraint {
-                from: link_finish(plan, i),
-                to: link_activation(plan, i),
-                label: 0,
-                up: 0,
-                down: link_least(plan, i),
-            },
-        }
-    }
-}
-
-// One point's part of the next table, and the copy of a table's first cells.
+// The shapes of the rules.
 mod rules_fill {
-    pub use self::cells::copy_cells;
-    pub use self::fill::fill_point;
+    pub use self::rows::digit_bit;
+    pub use self::rows::digit_mask;
+    pub use self::rows::label_mask;
+    pub use self::rows::link_bit;
+    pub use self::shapes::cleared;
+    pub use self::shapes::joined;
+    pub use self::shapes::propagated;
+    pub use self::shapes::removed;
+    pub use self::shapes::touches;
+    pub use self::shapes::Propagator;
+    pub use self::shapes::Remover;
 
-    // The loops over a point's cells, one for each shape of rule.
-    mod cells {
-        use super::super::plan::cell_at;
-        use super::super::plan::widen_cell;
-        use super::shapes::cleared;
-        use super::shapes::joined;
-        use super::shapes::propagated;
-        use super::shapes::removed;
-        use super::shapes::touches;
-        use super::shapes::Propagator;
-        use super::shapes::Remover;
-
-        fn raise(part: &mut [u32], place: usize, wait: u64) {
-            if widen_cell(part[place]) < wait {
-                part[place] = wait as u32;
-            }
-        }
-
-        // The first n cells of one table into another.
-        pub fn copy_cells(source: &[u32], target: &mut [u32], n: usize) {
-            for c in 0..n {
-                target[c] = source[c];
-            }
-        }
-
-        // Rules 1 to 3, from all cells of one point.
-        pub fn propagate_in(
-            marks: &[u8; 256],
-            first: &[u32],
-            part: &mut [u32],
-            width: usize,
-            mask: usize,
-            by: Propagator,
-        ) {
-            let base = by.from * width;
-            for c in 0..width {
-                let wait = propagated(marks, by, mask, c, cell_at(first, base + c));
-                raise(part, joined(c, by.add), wait);
-            }
-        }
-
-        // Rules 4 and 6, from one line (its place cleared) and the other point's cell at c, a place that has no bit of the mask.
-        fn remove_at(
-            first: &[u32],
-            part: &mut [u32],
-            base: usize,
-            by: Remover,
-            place: usize,
-            wait: u64,
-            c: usize,
-        ) {
-            let w = removed(by, wait, c, cell_at(first, base + c));
-            raise(part, joined(place, c), w);
-        }
-
-        // The same from the other point's cells from lo on and below hi.
-        fn remove_run(
-            first: &[u32],
-            part: &mut [u32],
-            base: usize,
-            by: Remover,
-            place: usize,
-            wait: u64,
-            lo: usize,
-            hi: usize,
-        ) {
-            for c in lo..hi {
-                remove_at(first, part, base, by, place, wait, c);
-            }
-        }
-
-        // Rules 4 and 6, from one line (its place cleared) and all cells of the other point.
-        // In each block only the first places have no bit of the mask: the others give nothing, and are passed over.
-        fn remove_one(first: &[u32], part: &mut [u32], width: usize, by: Remover, place: usize, wait: u64) {
-            let base = by.other * width;
-            let block = by.mask + by.low;
-            let mut start = 0;
-            while start < width {
-                remove_run(first, part, base, by, place, wait, start, start + by.low);
-                start += block;
-            }
-        }
-
-        // The same from any line: nothing where it waits 0 or has no bit of the mask.
-        fn remove_cell(first: &[u32], part: &mut [u32], width: usize, by: Remover, place: usize, wait: u64) {
-            if wait == 0 {
-                return;
-            }
-            if !touches(by.mask, place) {
-                return;
-            }
-            let rest = cleared(place, by.mask);
-            remove_one(first, part, width, by, rest, wait);
-        }
-
-        // Rules 4 and 6, from all cells of point x.
-        pub fn remove_in(first: &[u32], part: &mut [u32], width: usize, by: Remover, x: usize) {
-            let base = x * width;
-            for c in 0..width {
-                remove_cell(first, part, width, by, c, cell_at(first, base + c));
-            }
-        }
-
-        fn clear_cell(part: &mut [u32], mask: usize, place: usize, wait: u64) {
-            if touches(mask, place) {
-                let rest = cleared(place, mask);
-                raise(part, rest, wait);
-            }
-        }
-
-        // Rule 5, at the observing point x.
-        pub fn clear_in(first: &[u32], part: &mut [u32], width: usize, mask: usize, x: usize) {
-            let base = x * width;
-            for c in 0..width {
-                clear_cell(part, mask, c, cell_at(first, base + c));
-            }
-        }
-    }
-
-    // Filling one point's part of the second table, row by row.
-    mod fill {
-        use super::super::plan::edge_from;
-        use super::super::plan::edges;
-        use super::super::plan::link_activation;
-        use super::super::plan::link_finish;
-        use super::super::plan::links;
-        use super::super::plan::observer;
-        use super::super::plan::points;
-        use super::super::plan::propositions;
-        use super::super::plan::width as point_width;
-        use super::super::rules::Edge;
-        use super::cells::clear_in;
-        use super::cells::copy_cells;
-        use super::cells::propagate_in;
-        use super::cells::remove_in;
-        use super::rows::digit_mask;
-        use super::rows::edge_row;
-        use super::rows::label_mask;
-        use super::rows::letter_row;
-        use super::rows::literal_row;
-        use super::rows::lower_row;
-        use super::rows::upper_row;
-
-        // Rule 1 of an edge that starts at the part's point.
-        fn edge_in(
-            plan: &[u8],
-            marks: &[u8; 256],
-            horizon: u64,
-            first: &[u32],
-            part: &mut [u32],
-            width: usize,
-            mask: usize,
-            e: Edge,
-        ) {
-            let by = edge_row(plan, horizon, e);
-            propagate_in(marks, first, part, width, mask, by);
-        }
-
-        // Rule 1 of plan edge i, if it starts at x.
-        fn plan_edge_in(
-            plan: &[u8],
-            marks: &[u8; 256],
-            horizon: u64,
-            first: &[u32],
-            part: &mut [u32],
-            width: usize,
-            mask: usize,
-            x: usize,
-            i: usize,
-        ) {
-            if edge_from(plan, i) != x {
-                return;
-            }
-            let e = Edge::PlanEdge(i);
-            edge_in(plan, marks, horizon, first, part, width, mask, e);
-        }
-
-        fn fill_edges(
-            plan: &[u8],
-            marks: &[u8; 256],
-            horizon: u64,
-            first: &[u32],
-            part: &mut [u32],
-            width: usize,
-            mask: usize,
-            x: usize,
-        ) {
-            let n = edges(plan);
-            for i in 0..n {
-                plan_edge_in(plan, marks, horizon, first, part, width, mask, x, i);
-            }
-        }
-
-        // Rule 1 of every horizon edge: they start at point 0.
-        fn fill_horizon(
-            plan: &[u8],
-            marks: &[u8; 256],
-            horizon: u64,
-            first: &[u32],
-            part: &mut [u32],
-            width: usize,
-            mask: usize,
-        ) {
-            let n = points(plan);
-            for y in 1..n {
-                let e = Edge::HorizonEdge(y);
-                edge_in(plan, marks, horizon, first, part, width, mask, e);
-            }
-        }
-
-        fn horizon_at(
-            plan: &[u8],
-            marks: &[u8; 256],
-            horizon: u64,
-            first: &[u32],
-            part: &mut [u32],
-            width: usize,
-            mask: usize,
-            x: usize,
-        ) {
-            if x != 0 {
-                return;
-            }
-            fill_horizon(plan, marks, horizon, first, part, width, mask);
-        }
-
-        // Rule 2 of link i, whose activation is the part's point.
-        fn lower_in(
-            plan: &[u8],
-            marks: &[u8; 256],
-            first: &[u32],
-            part: &mut [u32],
-            width: usize,
-            mask: usize,
-            i: usize,
-        ) {
-            let by = lower_row(plan, i);
-            propagate_in(marks, first, part, width, mask, by);
-        }
-
-        // Rule 3 of link i, whose end is the part's point.
-        fn upper_in(
-            plan: &[u8],
-            marks: &[u8; 256],
-            first: &[u32],
-            part: &mut [u32],
-            width: usize,
-            mask: usize,
-            i: usize,
-        ) {
-            let by = upper_row(plan, i);
-            propagate_in(marks, first, part, width, mask, by);
-        }
-
-        // Rule 2 of link i and rule 1 of its upper bound, if its activation is x.
-        fn activation_in(
-            plan: &[u8],
-            marks: &[u8; 256],
-            horizon: u64,
-            first: &[u32],
-            part: &mut [u32],
-            width: usize,
-            mask: usize,
-            x: usize,
-            i: usize,
-        ) {
-            if link_activation(plan, i) != x {
-                return;
-            }
-            lower_in(plan, marks, first, part, width, mask, i);
-            let upper_bound = Edge::UpperBound(i);
-            edge_in(plan, marks, horizon, first, part, width, mask, upper_bound);
-        }
-
-        // Rule 3 of link i and rule 1 of its lower bound, if its end is x.
-        fn finish_in(
-            plan: &[u8],
-            marks: &[u8; 256],
-            horizon: u64,
-            first: &[u32],
-            part: &mut [u32],
-            width: usize,
-            mask: usize,
-            x: usize,
-            i: usize,
-        ) {
-            if link_finish(plan, i) != x {
-                return;
-            }
-            upper_in(plan, marks, first, part, width, mask, i);
-            let lower_bound = Edge::LowerBound(i);
-            edge_in(plan, marks, horizon, first, part, width, mask, lower_bound);
-        }
-
-        // Rule 4 of link i.
-        fn letter_in(plan: &[u8], first: &[u32], part: &mut [u32], width: usize, x: usize, i: usize) {
-            let by = letter_row(plan, i);
-            remove_in(first, part, width, by, x);
-        }
-
-        // Rules 2 to 4 of link i, and rule 1 of its two edges.
-        fn fill_link(
-            plan: &[u8],
-            marks: &[u8; 256],
-            horizon: u64,
-            first: &[u32],
-            part: &mut [u32],
-            width: usize,
-            mask: usize,
-            x: usize,
-            i: usize,
-        ) {
-            activation_in(plan, marks, horizon, first, part, width, mask, x, i);
-            finish_in(plan, marks, horizon, first, part, width, mask, x, i);
-            letter_in(plan, first, part, width, x, i);
-        }
-
-        fn fill_links(
-            plan: &[u8],
-            marks: &[u8; 256],
-            horizon: u64,
-            first: &[u32],
-            part: &mut [u32],
-            width: usize,
-            mask: usize,
-            x: usize,
-        ) {
-            let n = links(plan);
-            for i in 0..n {
-                fill_link(plan, marks, horizon, first, part, width, mask, x, i);
-            }
-        }
-
-        // Rule 5 of proposition j, if its observing point is x.
-        fn own_literal_in(plan: &[u8], first: &[u32], part: &mut [u32], width: usize, x: usize, j: usize) {
-            if observer(plan, j) != x {
-                return;
-            }
-            clear_in(first, part, width, digit_mask(j), x);
-        }
-
-        // Rule 6 of proposition j.
-        fn literal_in(plan: &[u8], first: &[u32], part: &mut [u32], width: usize, x: usize, j: usize) {
-            let by = literal_row(plan, j);
-            remove_in(first, part, width, by, x);
-        }
-
-        // Rules 5 and 6 of proposition j.
-        fn fill_proposition(plan: &[u8], first: &[u32], part: &mut [u32], width: usize, x: usize, j: usize) {
-            own_literal_in(plan, first, part, width, x, j);
-            literal_in(plan, first, part, width, x, j);
-        }
-
-        fn fill_propositions(plan: &[u8], first: &[u32], part: &mut [u32], width: usize, x: usize) {
-            let n = propositions(plan);
-            for j in 0..n {
-                fill_proposition(plan, first, part, width, x, j);
-            }
-        }
-
-        // The part of the next table that belongs to point x, and which starts at part's first cell; what lies past it is untouched.
-        pub fn fill_point(
-            plan: &[u8],
-            marks: &[u8; 256],
-            horizon: u64,
-            first: &[u32],
-            part: &mut [u32],
-            x: usize,
-        ) {
-            let width = point_width(plan);
-            let mask = label_mask(plan);
-            let start = x * width;
-            copy_cells(&first[start..], part, width);
-            fill_edges(plan, marks, horizon, first, part, width, mask, x);
-            horizon_at(plan, marks, horizon, first, part, width, mask, x);
-            fill_links(plan, marks, horizon, first, part, width, mask, x);
-            fill_propositions(plan, first, part, width, x);
-        }
-    }
-
-    // The shapes of a plan's rows: what a row avoids, adds and removes, as bits of a place.
+    // The bits of a place: those of its label, of a link and of a digit.
     mod rows {
         use super::super::plan::labels;
-        use super::super::plan::link_activation;
-        use super::super::plan::link_finish;
-        use super::super::plan::link_least;
-        use super::super::plan::link_most;
-        use super::super::plan::observer;
         use super::super::plan::propositions;
-        use super::super::rules::constraint_of;
-        use super::super::rules::Edge;
-        use super::shapes::Propagator;
-        use super::shapes::Remover;
 
         // The bits of a label.
         pub fn label_mask(plan: &[u8]) -> usize {
@@ -979,44 +800,8 @@ mod rules_fill {
         }
 
         // The lower of a digit's two bits.
-        fn digit_bit(j: usize) -> usize {
+        pub fn digit_bit(j: usize) -> usize {
             1 << (2 * j)
-        }
-
-        // Rule 1 of an edge.
-        pub fn edge_row(plan: &[u8], horizon: u64, e: Edge) -> Propagator {
-            let edge = constraint_of(plan, horizon, e);
-            Propagator { from: edge.to, avoid: 0, add: edge.label, up: edge.up, down: edge.down }
-        }
-
-        // Rule 2 of link i.
-        pub fn lower_row(plan: &[u8], i: usize) -> Propagator {
-            let bit = link_bit(plan, i);
-            Propagator { from: link_finish(plan, i), avoid: bit, add: 0, up: link_least(plan, i), down: 0 }
-        }
-
-        // Rule 3 of link i.
-        pub fn upper_row(plan: &[u8], i: usize) -> Propagator {
-            let bit = link_bit(plan, i);
-            Propagator {
-                from: link_activation(plan, i),
-                avoid: 0, // the link may be in the set already
-                add: bit,
-                up: 0,
-                down: link_most(plan, i),
-            }
-        }
-
-        // Rule 4 of link i.
-        pub fn letter_row(plan: &[u8], i: usize) -> Remover {
-            let bit = link_bit(plan, i);
-            let least = link_least(plan, i);
-            Remover { other: link_activation(plan, i), mask: bit, low: bit, add: least }
-        }
-
-        // Rule 6 of proposition j. Nothing is added, so a starting line of the observing point gives wait 0, which is nothing.
-        pub fn literal_row(plan: &[u8], j: usize) -> Remover {
-            Remover { other: observer(plan, j), mask: digit_mask(j), low: digit_bit(j), add: 0 }
         }
     }
 
@@ -1042,6 +827,7 @@ mod rules_fill {
         pub struct Remover {
             pub other: usize,
             pub mask: usize,
+            #[allow(dead_code)] // only loops over all cells go by it
             pub low: usize,
             pub add: u64,
         }
@@ -1104,15 +890,1051 @@ mod rules_fill {
     }
 }
 
-// The points that a point's next cells rest on.
-mod rounds_sources {
-    pub use self::points::find_sources;
+// The rows of a plan, read from its bytes once, its edges linked by the point where they start.
+mod rules_rows {
+    pub use self::reading::read_rows;
+    pub use self::shapes::edge_row;
+    pub use self::shapes::first_edge;
+    pub use self::shapes::horizon_row;
+    pub use self::shapes::letter_row;
+    pub use self::shapes::link_activation;
+    pub use self::shapes::link_finish;
+    pub use self::shapes::literal_row;
+    pub use self::shapes::lower_bound_row;
+    pub use self::shapes::lower_row;
+    pub use self::shapes::next_edge;
+    pub use self::shapes::observer;
+    pub use self::shapes::upper_bound_row;
+    pub use self::shapes::upper_row;
 
-    // The set of all points, of which a plan has at most 32.
-    pub const ALL_POINTS: usize = 4294967295;
+    // The rows of a plan, read from its bytes into a lent list.
+    mod reading {
+        use super::super::plan::edge_down;
+        use super::super::plan::edge_from;
+        use super::super::plan::edge_label;
+        use super::super::plan::edge_to;
+        use super::super::plan::edge_up;
+        use super::super::plan::edges;
+        use super::super::plan::link_activation;
+        use super::super::plan::link_finish;
+        use super::super::plan::link_least;
+        use super::super::plan::link_most;
+        use super::super::plan::links;
+        use super::super::plan::observer;
+        use super::super::plan::points;
+        use super::super::plan::propositions;
+        use super::super::plan::widen_word;
 
-    // Sets of points, a bit for each: from which points' lines the rules give a line of a point.
-    mod points {
+        fn put(rows: &mut [u16], at: usize, n: usize) {
+            rows[at] = n as u16;
+        }
+
+        // Four numbers, from an entry on.
+        fn put_four(rows: &mut [u16], at: usize, a: usize, b: usize, c: usize, d: usize) {
+            put(rows, at, a);
+            put(rows, at + 1, b);
+            put(rows, at + 2, c);
+            put(rows, at + 3, d);
+        }
+
+        // No edge of any point is read: its first is past them all.
+        fn clear_first(plan: &[u8], rows: &mut [u16]) {
+            let n = points(plan);
+            let none = edges(plan);
+            for x in 0..n {
+                put(rows, x, none);
+            }
+        }
+
+        fn read_observers(plan: &[u8], rows: &mut [u16]) {
+            let n = propositions(plan);
+            for j in 0..n {
+                put(rows, 32 + j, observer(plan, j));
+            }
+        }
+
+        fn read_link(plan: &[u8], rows: &mut [u16], i: usize) {
+            let activation = link_activation(plan, i);
+            let finish = link_finish(plan, i);
+            let least = link_least(plan, i) as usize;
+            let most = link_most(plan, i) as usize;
+            put_four(rows, 36 + 4 * i, activation, finish, least, most);
+        }
+
+        fn read_links(plan: &[u8], rows: &mut [u16]) {
+            let n = links(plan);
+            for i in 0..n {
+                read_link(plan, rows, i);
+            }
+        }
+
+        fn read_edge(plan: &[u8], rows: &mut [u16], i: usize) {
+            let to = edge_to(plan, i);
+            let label = edge_label(plan, i);
+            let up = edge_up(plan, i) as usize;
+            let down = edge_down(plan, i) as usize;
+            put_four(rows, 52 + 5 * i, to, label, up, down);
+        }
+
+        // Puts edge i before those of its point that are linked.
+        fn link_edge(plan: &[u8], rows: &mut [u16], i: usize) {
+            let x = edge_from(plan, i);
+            let next = widen_word(rows[x]);
+            put(rows, 56 + 5 * i, next);
+            put(rows, x, i);
+        }
+
+        // The edges from the last to the first, so that each is linked before those of its point that follow it.
+        fn read_edges(plan: &[u8], rows: &mut [u16]) {
+            let mut i = edges(plan);
+            while 0 < i {
+                i -= 1;
+                read_edge(plan, rows, i);
+                link_edge(plan, rows, i);
+            }
+        }
+
+        // All rows of a plan.
+        pub fn read_rows(plan: &[u8], rows: &mut [u16]) {
+            clear_first(plan, rows);
+            read_observers(plan, rows);
+            read_links(plan, rows);
+            read_edges(plan, rows);
+        }
+    }
+
+    // The shapes of a plan's rows as they were read: what a row avoids, adds and removes, as bits of a place.
+    mod shapes {
+        use super::super::plan::widen_word;
+        use super::super::rules_fill::digit_bit;
+        use super::super::rules_fill::digit_mask;
+        use super::super::rules_fill::link_bit;
+        use super::super::rules_fill::Propagator;
+        use super::super::rules_fill::Remover;
+
+        fn number(rows: &[u16], at: usize) -> usize {
+            widen_word(rows[at])
+        }
+
+        // The same as seconds.
+        fn seconds(rows: &[u16], at: usize) -> u64 {
+            number(rows, at) as u64
+        }
+
+        pub fn observer(_plan: &[u8], rows: &[u16], j: usize) -> usize {
+            number(rows, 32 + j)
+        }
+
+        pub fn link_activation(_plan: &[u8], rows: &[u16], i: usize) -> usize {
+            number(rows, 36 + 4 * i)
+        }
+
+        pub fn link_finish(_plan: &[u8], rows: &[u16], i: usize) -> usize {
+            number(rows, 37 + 4 * i)
+        }
+
+        fn link_least(_plan: &[u8], rows: &[u16], i: usize) -> u64 {
+            seconds(rows, 38 + 4 * i)
+        }
+
+        fn link_most(_plan: &[u8], rows: &[u16], i: usize) -> u64 {
+            seconds(rows, 39 + 4 * i)
+        }
+
+        // The first edge that starts at point x, or the number of edges.
+        pub fn first_edge(_plan: &[u8], rows: &[u16], x: usize) -> usize {
+            number(rows, x)
+        }
+
+        // The next edge after edge i that starts where edge i starts, or the number of edges.
+        pub fn next_edge(_plan: &[u8], rows: &[u16], i: usize) -> usize {
+            number(rows, 56 + 5 * i)
+        }
+
+        // Rule 1 of plan edge i.
+        pub fn edge_row(_plan: &[u8], rows: &[u16], i: usize) -> Propagator {
+            let at = 52 + 5 * i;
+            Propagator {
+                from: number(rows, at),
+                avoid: 0,
+                add: number(rows, at + 1),
+                up: seconds(rows, at + 2),
+                down: seconds(rows, at + 3),
+            }
+        }
+
+        // Rule 1 of the horizon edge to point y.
+        pub fn horizon_row(_plan: &[u8], horizon: u64, y: usize) -> Propagator {
+            Propagator { from: y, avoid: 0, add: 0, up: horizon, down: 0 }
+        }
+
+        // Rule 1 of the upper bound of link i.
+        pub fn upper_bound_row(plan: &[u8], rows: &[u16], i: usize) -> Propagator {
+            Propagator {
+                from: link_finish(plan, rows, i),
+                avoid: 0,
+                add: 0,
+                up: link_most(plan, rows, i),
+                down: 0,
+            }
+        }
+
+        // Rule 1 of the lower bound of link i.
+        pub fn lower_bound_row(plan: &[u8], rows: &[u16], i: usize) -> Propagator {
+            Propagator {
+                from: link_activation(plan, rows, i),
+                avoid: 0,
+                add: 0,
+                up: 0,
+                down: link_least(plan, rows, i),
+            }
+        }
+
+        // Rule 2 of link i.
+        pub fn lower_row(plan: &[u8], rows: &[u16], i: usize) -> Propagator {
+            let bit = link_bit(plan, i);
+            Propagator {
+                from: link_finish(plan, rows, i),
+                avoid: bit,
+                add: 0,
+                up: link_least(plan, rows, i),
+                down: 0,
+            }
+        }
+
+        // Rule 3 of link i.
+        pub fn upper_row(plan: &[u8], rows: &[u16], i: usize) -> Propagator {
+            let bit = link_bit(plan, i);
+            Propagator {
+                from: link_activation(plan, rows, i),
+                avoid: 0, // the link may be in the set already
+                add: bit,
+                up: 0,
+                down: link_most(plan, rows, i),
+            }
+        }
+
+        // Rule 4 of link i.
+        pub fn letter_row(plan: &[u8], rows: &[u16], i: usize) -> Remover {
+            let bit = link_bit(plan, i);
+            let least = link_least(plan, rows, i);
+            Remover { other: link_activation(plan, rows, i), mask: bit, low: bit, add: least }
+        }
+
+        // Rule 6 of proposition j. Nothing is added, so a starting line of the observing point gives wait 0, which is nothing.
+        pub fn literal_row(plan: &[u8], rows: &[u16], j: usize) -> Remover {
+            Remover { other: observer(plan, rows, j), mask: digit_mask(j), low: digit_bit(j), add: 0 }
+        }
+    }
+}
+
+// The rules in loops over listed places, which raise the cells of a part and note them.
+mod rules_listed {
+    pub use self::listed::clear_raised;
+    pub use self::listed::propagate_raised;
+    pub use self::listed::remove_pairs;
+
+    // The loops over listed places, one for each shape of rule. In a list of w entries for each of its rows, row 2y has the places of point y that the
+    // last round raised, and row 2y + 1 the places of its lines.
+    mod listed {
+        use super::super::plan::cell_at;
+        use super::super::plan::widen_word;
+        use super::super::rules_fill::cleared;
+        use super::super::rules_fill::joined;
+        use super::super::rules_fill::propagated;
+        use super::super::rules_fill::removed;
+        use super::super::rules_fill::touches;
+        use super::super::rules_fill::Propagator;
+        use super::super::rules_fill::Remover;
+        use super::notes::raise;
+
+        // Rules 1 to 3, from the n raised cells of the row's point.
+        pub fn propagate_raised(
+            marks: &[u8; 256],
+            first: &[u32],
+            lists: &[u16],
+            n: usize,
+            part: &mut [u32],
+            notes: &mut [u16],
+            count: usize,
+            width: usize,
+            mask: usize,
+            x: usize,
+            by: Propagator,
+        ) -> usize {
+            let base = by.from * width;
+            let start = 2 * base;
+            let own = x * width;
+            let mut noted = count;
+            for i in 0..n {
+                let c = widen_word(lists[start + i]);
+                let wait = propagated(marks, by, mask, c, cell_at(first, base + c));
+                noted = raise(first, own, part, notes, noted, width, joined(c, by.add), wait);
+            }
+            noted
+        }
+
+        // Rules 4 and 6, from one line (its place cleared) and the n lines of the other point.
+        fn remove_with(
+            first: &[u32],
+            lists: &[u16],
+            n: usize,
+            part: &mut [u32],
+            notes: &mut [u16],
+            count: usize,
+            width: usize,
+            x: usize,
+            by: Remover,
+            place: usize,
+            wait: u64,
+        ) -> usize {
+            let base = by.other * width;
+            let start = 2 * base + width;
+            let own = x * width;
+            let mut noted = count;
+            for i in 0..n {
+                let u = widen_word(lists[start + i]);
+                if !touches(by.mask, u) {
+                    // only the first line has the link or the digit
+                    let w = removed(by, wait, u, cell_at(first, base + u));
+                    noted = raise(first, own, part, notes, noted, width, joined(place, u), w);
+                }
+            }
+            noted
+        }
+
+        // The same from each of the m raised cells of point x.
+        fn remove_raised(
+            first: &[u32],
+            lists: &[u16],
+            n: usize,
+            m: usize,
+            part: &mut [u32],
+            notes: &mut [u16],
+            count: usize,
+            width: usize,
+            x: usize,
+            by: Remover,
+        ) -> usize {
+            let own = x * width;
+            let start = 2 * own;
+            let mut noted = count;
+            for i in 0..m {
+                let c = widen_word(lists[start + i]);
+                if touches(by.mask, c) {
+                    let rest = cleared(c, by.mask);
+                    noted = remove_with(
+                        first,
+                        lists,
+                        n,
+                        part,
+                        notes,
+                        noted,
+                        width,
+                        x,
+                        by,
+                        rest,
+                        cell_at(first, own + c),
+                    );
+                }
+            }
+            noted
+        }
+
+        // Rules 4 and 6, from the n lines of point x and one line of the other point, without the mask's bits.
+        fn remove_from_lines(
+            first: &[u32],
+            lists: &[u16],
+            n: usize,
+            part: &mut [u32],
+            notes: &mut [u16],
+            count: usize,
+            width: usize,
+            x: usize,
+            by: Remover,
+            place: usize,
+            other: u64,
+        ) -> usize {
+            let own = x * width;
+            let start = 2 * own + width;
+            let mut noted = count;
+            for i in 0..n {
+                let c = widen_word(lists[start + i]);
+                if touches(by.mask, c) {
+                    let w = removed(by, cell_at(first, own + c), place, other);
+                    noted =
+                        raise(first, own, part, notes, noted, width, joined(cleared(c, by.mask), place), w);
+                }
+            }
+            noted
+        }
+
+        // The same from each of the m raised cells of the other point.
+        fn remove_by_raised(
+            first: &[u32],
+            lists: &[u16],
+            n: usize,
+            m: usize,
+            part: &mut [u32],
+            notes: &mut [u16],
+            count: usize,
+            width: usize,
+            x: usize,
+            by: Remover,
+        ) -> usize {
+            let base = by.other * width;
+            let start = 2 * base;
+            let mut noted = count;
+            for i in 0..m {
+                let u = widen_word(lists[start + i]);
+                if !touches(by.mask, u) {
+                    noted = remove_from_lines(
+                        first,
+                        lists,
+                        n,
+                        part,
+                        notes,
+                        noted,
+                        width,
+                        x,
+                        by,
+                        u,
+                        cell_at(first, base + u),
+                    );
+                }
+            }
+            noted
+        }
+
+        // Rules 4 and 6, from pairs of which one is raised: raised cells of point x with lines of the other point, and the other way round.
+        pub fn remove_pairs(
+            first: &[u32],
+            lists: &[u16],
+            counts: &[usize],
+            part: &mut [u32],
+            notes: &mut [u16],
+            count: usize,
+            width: usize,
+            x: usize,
+            by: Remover,
+        ) -> usize {
+            let other = by.other;
+            let noted = remove_raised(
+                first,
+                lists,
+                counts[2 * other + 1],
+                counts[2 * x],
+                part,
+                notes,
+                count,
+                width,
+                x,
+                by,
+            );
+            remove_by_raised(
+                first,
+                lists,
+                counts[2 * x + 1],
+                counts[2 * other],
+                part,
+                notes,
+                noted,
+                width,
+                x,
+                by,
+            )
+        }
+
+        // Rule 5, at the observing point x, from its n raised cells.
+        pub fn clear_raised(
+            first: &[u32],
+            lists: &[u16],
+            n: usize,
+            part: &mut [u32],
+            notes: &mut [u16],
+            count: usize,
+            width: usize,
+            x: usize,
+            mask: usize,
+        ) -> usize {
+            let own = x * width;
+            let start = 2 * own;
+            let mut noted = count;
+            for i in 0..n {
+                let c = widen_word(lists[start + i]);
+                if touches(mask, c) {
+                    let rest = cleared(c, mask);
+                    noted = raise(first, own, part, notes, noted, width, rest, cell_at(first, own + c));
+                }
+            }
+            noted
+        }
+    }
+
+    // A part that holds the table's cells, some raised: the places of those are noted.
+    mod notes {
+        use super::super::plan::widen_cell;
+
+        // Raises a cell of the part, which has w cells of the table from own on; a cell that leaves the table's wait is noted. Gives the number of notes.
+        pub fn raise(
+            first: &[u32],
+            own: usize,
+            part: &mut [u32],
+            notes: &mut [u16],
+            count: usize,
+            _width: usize,
+            place: usize,
+            wait: u64,
+        ) -> usize {
+            let was = part[place];
+            if wait <= widen_cell(was) {
+                return count;
+            }
+            part[place] = wait as u32;
+            if was != first[own + place] {
+                return count;
+            }
+            notes[count] = place as u16;
+            count + 1
+        }
+    }
+}
+
+// One point's part of the next table, from the cells that the last round raised.
+mod rules_refill {
+    pub use self::refill::refill_point;
+
+    // Filling one point's part, which holds the point's cells, from the cells that the last round raised, row by row. Each function gives the number of notes.
+    mod refill {
+        use super::super::plan::edges;
+        use super::super::plan::links;
+        use super::super::plan::points;
+        use super::super::plan::propositions;
+        use super::super::rules_fill::digit_mask;
+        use super::super::rules_fill::Propagator;
+        use super::super::rules_listed::clear_raised;
+        use super::super::rules_listed::propagate_raised;
+        use super::super::rules_listed::remove_pairs;
+        use super::super::rules_rows::edge_row;
+        use super::super::rules_rows::first_edge;
+        use super::super::rules_rows::horizon_row;
+        use super::super::rules_rows::letter_row;
+        use super::super::rules_rows::link_activation;
+        use super::super::rules_rows::link_finish;
+        use super::super::rules_rows::literal_row;
+        use super::super::rules_rows::lower_bound_row;
+        use super::super::rules_rows::lower_row;
+        use super::super::rules_rows::next_edge;
+        use super::super::rules_rows::observer;
+        use super::super::rules_rows::upper_bound_row;
+        use super::super::rules_rows::upper_row;
+
+        // Rules 1 to 3 of a row of point x.
+        fn propagate_row(
+            _plan: &[u8],
+            marks: &[u8; 256],
+            _horizon: u64,
+            first: &[u32],
+            lists: &[u16],
+            counts: &[usize],
+            _rows: &[u16],
+            part: &mut [u32],
+            notes: &mut [u16],
+            count: usize,
+            width: usize,
+            mask: usize,
+            x: usize,
+            by: Propagator,
+        ) -> usize {
+            let n = counts[2 * by.from];
+            propagate_raised(marks, first, lists, n, part, notes, count, width, mask, x, by)
+        }
+
+        // Rule 1 of plan edge i, which starts at x.
+        fn edge_in(
+            plan: &[u8],
+            marks: &[u8; 256],
+            horizon: u64,
+            first: &[u32],
+            lists: &[u16],
+            counts: &[usize],
+            rows: &[u16],
+            part: &mut [u32],
+            notes: &mut [u16],
+            count: usize,
+            width: usize,
+            mask: usize,
+            x: usize,
+            i: usize,
+        ) -> usize {
+            let by = edge_row(plan, rows, i);
+            propagate_row(
+                plan, marks, horizon, first, lists, counts, rows, part, notes, count, width, mask, x, by,
+            )
+        }
+
+        // Rule 1 of the plan edges that start at x, from each to the next of them.
+        fn fill_edges(
+            plan: &[u8],
+            marks: &[u8; 256],
+            horizon: u64,
+            first: &[u32],
+            lists: &[u16],
+            counts: &[usize],
+            rows: &[u16],
+            part: &mut [u32],
+            notes: &mut [u16],
+            count: usize,
+            width: usize,
+            mask: usize,
+            x: usize,
+        ) -> usize {
+            let n = edges(plan);
+            let mut noted = count;
+            let mut i = first_edge(plan, rows, x);
+            while i < n {
+                noted = edge_in(
+                    plan, marks, horizon, first, lists, counts, rows, part, notes, noted, width, mask, x, i,
+                );
+                i = next_edge(plan, rows, i);
+            }
+            noted
+        }
+
+        // Rule 1 of the horizon edge to y, at the first alarm.
+        fn horizon_edge_in(
+            plan: &[u8],
+            marks: &[u8; 256],
+            horizon: u64,
+            first: &[u32],
+            lists: &[u16],
+            counts: &[usize],
+            rows: &[u16],
+            part: &mut [u32],
+            notes: &mut [u16],
+            count: usize,
+            width: usize,
+            mask: usize,
+            x: usize,
+            y: usize,
+        ) -> usize {
+            let by = horizon_row(plan, horizon, y);
+            propagate_row(
+                plan, marks, horizon, first, lists, counts, rows, part, notes, count, width, mask, x, by,
+            )
+        }
+
+        fn fill_horizon(
+            plan: &[u8],
+            marks: &[u8; 256],
+            horizon: u64,
+            first: &[u32],
+            lists: &[u16],
+            counts: &[usize],
+            rows: &[u16],
+            part: &mut [u32],
+            notes: &mut [u16],
+            count: usize,
+            width: usize,
+            mask: usize,
+            x: usize,
+        ) -> usize {
+            let n = points(plan);
+            let mut noted = count;
+            for y in 1..n {
+                noted = horizon_edge_in(
+                    plan, marks, horizon, first, lists, counts, rows, part, notes, noted, width, mask, x, y,
+                );
+            }
+            noted
+        }
+
+        // Rule 1 of the horizon edges, which start at the first alarm: they give nothing unless a raised cell is over the horizon.
+        fn horizon_at(
+            plan: &[u8],
+            marks: &[u8; 256],
+            horizon: u64,
+            first: &[u32],
+            lists: &[u16],
+            counts: &[usize],
+            rows: &[u16],
+            part: &mut [u32],
+            notes: &mut [u16],
+            count: usize,
+            width: usize,
+            mask: usize,
+            x: usize,
+            over: bool,
+        ) -> usize {
+            if x != 0 {
+                return count;
+            }
+            if !over {
+                return count;
+            }
+            fill_horizon(plan, marks, horizon, first, lists, counts, rows, part, notes, count, width, mask, x)
+        }
+
+        // Rule 2 of link i, whose activation is x.
+        fn lower_in(
+            plan: &[u8],
+            marks: &[u8; 256],
+            horizon: u64,
+            first: &[u32],
+            lists: &[u16],
+            counts: &[usize],
+            rows: &[u16],
+            part: &mut [u32],
+            notes: &mut [u16],
+            count: usize,
+            width: usize,
+            mask: usize,
+            x: usize,
+            i: usize,
+        ) -> usize {
+            let by = lower_row(plan, rows, i);
+            propagate_row(
+                plan, marks, horizon, first, lists, counts, rows, part, notes, count, width, mask, x, by,
+            )
+        }
+
+        // Rule 1 of its upper bound.
+        fn upper_bound_in(
+            plan: &[u8],
+            marks: &[u8; 256],
+            horizon: u64,
+            first: &[u32],
+            lists: &[u16],
+            counts: &[usize],
+            rows: &[u16],
+            part: &mut [u32],
+            notes: &mut [u16],
+            count: usize,
+            width: usize,
+            mask: usize,
+            x: usize,
+            i: usize,
+        ) -> usize {
+            let by = upper_bound_row(plan, rows, i);
+            propagate_row(
+                plan, marks, horizon, first, lists, counts, rows, part, notes, count, width, mask, x, by,
+            )
+        }
+
+        // Rule 3 of link i, whose end is x.
+        fn upper_in(
+            plan: &[u8],
+            marks: &[u8; 256],
+            horizon: u64,
+            first: &[u32],
+            lists: &[u16],
+            counts: &[usize],
+            rows: &[u16],
+            part: &mut [u32],
+            notes: &mut [u16],
+            count: usize,
+            width: usize,
+            mask: usize,
+            x: usize,
+            i: usize,
+        ) -> usize {
+            let by = upper_row(plan, rows, i);
+            propagate_row(
+                plan, marks, horizon, first, lists, counts, rows, part, notes, count, width, mask, x, by,
+            )
+        }
+
+        // Rule 1 of its lower bound.
+        fn lower_bound_in(
+            plan: &[u8],
+            marks: &[u8; 256],
+            horizon: u64,
+            first: &[u32],
+            lists: &[u16],
+            counts: &[usize],
+            rows: &[u16],
+            part: &mut [u32],
+            notes: &mut [u16],
+            count: usize,
+            width: usize,
+            mask: usize,
+            x: usize,
+            i: usize,
+        ) -> usize {
+            let by = lower_bound_row(plan, rows, i);
+            propagate_row(
+                plan, marks, horizon, first, lists, counts, rows, part, notes, count, width, mask, x, by,
+            )
+        }
+
+        // Rule 2 of link i and rule 1 of its upper bound, if its activation is x.
+        fn activation_in(
+            plan: &[u8],
+            marks: &[u8; 256],
+            horizon: u64,
+            first: &[u32],
+            lists: &[u16],
+            counts: &[usize],
+            rows: &[u16],
+            part: &mut [u32],
+            notes: &mut [u16],
+            count: usize,
+            width: usize,
+            mask: usize,
+            x: usize,
+            i: usize,
+        ) -> usize {
+            if link_activation(plan, rows, i) != x {
+                return count;
+            }
+            let noted = lower_in(
+                plan, marks, horizon, first, lists, counts, rows, part, notes, count, width, mask, x, i,
+            );
+            upper_bound_in(
+                plan, marks, horizon, first, lists, counts, rows, part, notes, noted, width, mask, x, i,
+            )
+        }
+
+        // Rule 3 of link i and rule 1 of its lower bound, if its end is x.
+        fn finish_in(
+            plan: &[u8],
+            marks: &[u8; 256],
+            horizon: u64,
+            first: &[u32],
+            lists: &[u16],
+            counts: &[usize],
+            rows: &[u16],
+            part: &mut [u32],
+            notes: &mut [u16],
+            count: usize,
+            width: usize,
+            mask: usize,
+            x: usize,
+            i: usize,
+        ) -> usize {
+            if link_finish(plan, rows, i) != x {
+                return count;
+            }
+            let noted = upper_in(
+                plan, marks, horizon, first, lists, counts, rows, part, notes, count, width, mask, x, i,
+            );
+            lower_bound_in(
+                plan, marks, horizon, first, lists, counts, rows, part, notes, noted, width, mask, x, i,
+            )
+        }
+
+        // Rule 4 of link i.
+        fn letter_in(
+            plan: &[u8],
+            _marks: &[u8; 256],
+            _horizon: u64,
+            first: &[u32],
+            lists: &[u16],
+            counts: &[usize],
+            rows: &[u16],
+            part: &mut [u32],
+            notes: &mut [u16],
+            count: usize,
+            width: usize,
+            _mask: usize,
+            x: usize,
+            i: usize,
+        ) -> usize {
+            let by = letter_row(plan, rows, i);
+            remove_pairs(first, lists, counts, part, notes, count, width, x, by)
+        }
+
+        // Rules 2 to 4 of link i, and rule 1 of its two edges.
+        fn fill_link(
+            plan: &[u8],
+            marks: &[u8; 256],
+            horizon: u64,
+            first: &[u32],
+            lists: &[u16],
+            counts: &[usize],
+            rows: &[u16],
+            part: &mut [u32],
+            notes: &mut [u16],
+            count: usize,
+            width: usize,
+            mask: usize,
+            x: usize,
+            i: usize,
+        ) -> usize {
+            let activated = activation_in(
+                plan, marks, horizon, first, lists, counts, rows, part, notes, count, width, mask, x, i,
+            );
+            let finished = finish_in(
+                plan, marks, horizon, first, lists, counts, rows, part, notes, activated, width, mask, x, i,
+            );
+            letter_in(
+                plan, marks, horizon, first, lists, counts, rows, part, notes, finished, width, mask, x, i,
+            )
+        }
+
+        fn fill_links(
+            plan: &[u8],
+            marks: &[u8; 256],
+            horizon: u64,
+            first: &[u32],
+            lists: &[u16],
+            counts: &[usize],
+            rows: &[u16],
+            part: &mut [u32],
+            notes: &mut [u16],
+            count: usize,
+            width: usize,
+            mask: usize,
+            x: usize,
+        ) -> usize {
+            let n = links(plan);
+            let mut noted = count;
+            for i in 0..n {
+                noted = fill_link(
+                    plan, marks, horizon, first, lists, counts, rows, part, notes, noted, width, mask, x, i,
+                );
+            }
+            noted
+        }
+
+        // Rule 5 of proposition j, if its observing point is x.
+        fn own_literal_in(
+            plan: &[u8],
+            _marks: &[u8; 256],
+            _horizon: u64,
+            first: &[u32],
+            lists: &[u16],
+            counts: &[usize],
+            rows: &[u16],
+            part: &mut [u32],
+            notes: &mut [u16],
+            count: usize,
+            width: usize,
+            _mask: usize,
+            x: usize,
+            j: usize,
+        ) -> usize {
+            if observer(plan, rows, j) != x {
+                return count;
+            }
+            let n = counts[2 * x];
+            clear_raised(first, lists, n, part, notes, count, width, x, digit_mask(j))
+        }
+
+        // Rule 6 of proposition j.
+        fn literal_in(
+            plan: &[u8],
+            _marks: &[u8; 256],
+            _horizon: u64,
+            first: &[u32],
+            lists: &[u16],
+            counts: &[usize],
+            rows: &[u16],
+            part: &mut [u32],
+            notes: &mut [u16],
+            count: usize,
+            width: usize,
+            _mask: usize,
+            x: usize,
+            j: usize,
+        ) -> usize {
+            let by = literal_row(plan, rows, j);
+            remove_pairs(first, lists, counts, part, notes, count, width, x, by)
+        }
+
+        // Rules 5 and 6 of proposition j.
+        fn fill_proposition(
+            plan: &[u8],
+            marks: &[u8; 256],
+            horizon: u64,
+            first: &[u32],
+            lists: &[u16],
+            counts: &[usize],
+            rows: &[u16],
+            part: &mut [u32],
+            notes: &mut [u16],
+            count: usize,
+            width: usize,
+            mask: usize,
+            x: usize,
+            j: usize,
+        ) -> usize {
+            let noted = own_literal_in(
+                plan, marks, horizon, first, lists, counts, rows, part, notes, count, width, mask, x, j,
+            );
+            literal_in(
+                plan, marks, horizon, first, lists, counts, rows, part, notes, noted, width, mask, x, j,
+            )
+        }
+
+        fn fill_propositions(
+            plan: &[u8],
+            marks: &[u8; 256],
+            horizon: u64,
+            first: &[u32],
+            lists: &[u16],
+            counts: &[usize],
+            rows: &[u16],
+            part: &mut [u32],
+            notes: &mut [u16],
+            count: usize,
+            width: usize,
+            mask: usize,
+            x: usize,
+        ) -> usize {
+            let n = propositions(plan);
+            let mut noted = count;
+            for j in 0..n {
+                noted = fill_proposition(
+                    plan, marks, horizon, first, lists, counts, rows, part, notes, noted, width, mask, x, j,
+                );
+            }
+            noted
+        }
+
+        // The part of the next table that belongs to point x, from the raised cells; it has the point's cells before. What lies past it is untouched.
+        // Gives the number of its cells that are above the table's; their places are noted.
+        pub fn refill_point(
+            plan: &[u8],
+            marks: &[u8; 256],
+            horizon: u64,
+            first: &[u32],
+            lists: &[u16],
+            counts: &[usize],
+            rows: &[u16],
+            part: &mut [u32],
+            notes: &mut [u16],
+            width: usize,
+            mask: usize,
+            x: usize,
+            over: bool,
+        ) -> usize {
+            let edged =
+                fill_edges(plan, marks, horizon, first, lists, counts, rows, part, notes, 0, width, mask, x);
+            let far = horizon_at(
+                plan, marks, horizon, first, lists, counts, rows, part, notes, edged, width, mask, x, over,
+            );
+            let linked = fill_links(
+                plan, marks, horizon, first, lists, counts, rows, part, notes, far, width, mask, x,
+            );
+            fill_propositions(
+                plan, marks, horizon, first, lists, counts, rows, part, notes, linked, width, mask, x,
+            )
+        }
+    }
+}
+
+// Sets of points, a bit for each, and the points that a round concerns.
+mod rounds_points {
+    pub use self::concern::concerned;
+    pub use self::concern::find_dependents;
+    pub use self::concern::find_givers;
+    pub use self::sets::bit;
+    pub use self::sets::lowest;
+    pub use self::sets::without;
+
+    // Which points a round concerns: those of which a rule may give a line from a cell that the last round raised.
+    mod concern {
         use super::super::plan::edge_from;
         use super::super::plan::edge_to;
         use super::super::plan::edges;
@@ -1120,91 +1942,118 @@ mod rounds_sources {
         use super::super::plan::link_finish;
         use super::super::plan::links;
         use super::super::plan::observer;
-        use super::super::plan::points;
         use super::super::plan::propositions;
-        use super::ALL_POINTS;
+        use super::sets::bit;
+        use super::sets::lowest;
+        use super::sets::without;
 
-        fn bit(x: usize) -> usize {
-            1 << x
+        // Adds point x to the set of point y.
+        fn add(sets: &mut [usize], y: usize, x: usize) {
+            sets[y] = sets[y] | bit(x);
         }
 
-        fn of_edge(plan: &[u8], x: usize, i: usize) -> usize {
-            if edge_from(plan, i) != x {
-                return 0;
-            }
-            bit(edge_to(plan, i))
-        }
-
-        fn of_link(plan: &[u8], x: usize, i: usize) -> usize {
-            let activation = link_activation(plan, i);
-            let both = bit(x) | bit(activation);
-            if activation != x {
-                return both;
-            }
-            both | bit(link_finish(plan, i))
-        }
-
-        fn of_proposition(plan: &[u8], x: usize, j: usize) -> usize {
-            bit(x) | bit(observer(plan, j))
-        }
-
-        fn of_edges(plan: &[u8], x: usize) -> usize {
+        fn depend_by_edges(plan: &[u8], sets: &mut [usize]) {
             let n = edges(plan);
-            let mut set = 0;
             for i in 0..n {
-                set = set | of_edge(plan, x, i);
+                add(sets, edge_to(plan, i), edge_from(plan, i));
             }
-            set
         }
 
-        fn of_links(plan: &[u8], x: usize) -> usize {
+        fn depend_by_links(plan: &[u8], sets: &mut [usize]) {
+            let n = links(plan);
+            for i in 0..n {
+                let a = link_activation(plan, i);
+                let c = link_finish(plan, i);
+                add(sets, a, c);
+                add(sets, c, a);
+            }
+        }
+
+        // For each point, those of which rules 1 to 3 give a line from one of its lines; horizon edges are left out.
+        pub fn find_dependents(plan: &[u8], sets: &mut [usize]) {
+            depend_by_edges(plan, sets);
+            depend_by_links(plan, sets);
+        }
+
+        fn activations(plan: &[u8]) -> usize {
             let n = links(plan);
             let mut set = 0;
             for i in 0..n {
-                set = set | of_link(plan, x, i);
+                set = set | bit(link_activation(plan, i));
             }
             set
         }
 
-        fn of_propositions(plan: &[u8], x: usize) -> usize {
+        fn observers(plan: &[u8]) -> usize {
             let n = propositions(plan);
             let mut set = 0;
             for j in 0..n {
-                set = set | of_proposition(plan, x, j);
+                set = set | bit(observer(plan, j));
             }
             set
         }
 
-        // Horizon edges run from the first alarm to all points.
-        fn sources(plan: &[u8], x: usize) -> usize {
-            if x == 0 {
-                return ALL_POINTS;
-            }
-            of_edges(plan, x) | of_links(plan, x) | of_propositions(plan, x)
+        // The activations and the observing points: the second parents of rules 4 and 6 are theirs.
+        pub fn find_givers(plan: &[u8]) -> usize {
+            activations(plan) | observers(plan)
         }
 
-        // The sources of every point.
-        pub fn find_sources(plan: &[u8], sets: &mut [usize]) {
-            let n = points(plan);
-            for x in 0..n {
-                sets[x] = sources(plan, x);
+        // The points that depend on one of a set of points below n.
+        fn dependents_of(sets: &[usize], _n: usize, changed: usize) -> usize {
+            let mut left = changed;
+            let mut found = 0;
+            while left != 0 {
+                let y = lowest(left);
+                left = without(left, y);
+                found = found | sets[y];
             }
+            found
+        }
+
+        // The points with a line beside the starting line of which rules 4 to 6 may give a line.
+        fn lined_of(_n: usize, changed: usize, lined: usize, givers: usize) -> usize {
+            if changed & givers != 0 {
+                return lined;
+            }
+            lined & changed
+        }
+
+        // The points below n that a round concerns after one that changed some of them; those with a line beside the starting line are in `lined`.
+        pub fn concerned(sets: &[usize], n: usize, changed: usize, lined: usize, givers: usize) -> usize {
+            dependents_of(sets, n, changed) | lined_of(n, changed, lined, givers)
+        }
+    }
+
+    // Sets of points, of which a plan has at most 32: a number with a bit for each.
+    mod sets {
+        pub fn bit(x: usize) -> usize {
+            1 << x
+        }
+
+        // The lowest point of a set that has one.
+        pub fn lowest(set: usize) -> usize {
+            usize::trailing_zeros(set) as usize
+        }
+
+        pub fn without(set: usize, x: usize) -> usize {
+            set - bit(x)
         }
     }
 }
 
-// Lent tables: their first cells, and one round.
+// Lent tables: their first cells, one round, and what is known of a table between rounds.
 mod rounds_tables {
     pub use self::cells::clear_cells;
-    pub use self::cells::copy_changed;
     pub use self::cells::first_alarm_waits;
     pub use self::cells::same_cells;
+    pub use self::lines::list_lines;
     pub use self::making::next_round;
+    pub use self::settling::lined_after;
+    pub use self::settling::over_horizon;
+    pub use self::settling::settle;
 
-    // The first cells of lent tables: whether they agree, whether one is above 0, zeros, and a copy of those that differ.
+    // The first cells of lent tables: whether they agree, whether one is above 0, and zeros.
     mod cells {
-        use super::super::rules_fill::copy_cells;
-
         // Whether the first cells of two tables agree, point by point up to the first cell that differs.
         pub fn same_cells(first: &[u32], second: &[u32], points: usize, width: usize) -> bool {
             let mut agree = true;
@@ -1236,77 +2085,229 @@ mod rounds_tables {
                 table[c] = 0;
             }
         }
+    }
 
-        // The cells of point x from one table to another, unless they agree; the point's bit if they differed, else 0.
-        fn copy_changed_point(source: &[u32], target: &mut [u32], width: usize, x: usize) -> usize {
-            let start = x * width;
-            if same_cells(&source[start..], &target[start..], 1, width) {
-                return 0;
+    // The lines of a table listed, where rounds begin from it: they count as raised.
+    mod lines {
+        // The lines of point y, twice: its starting line, and a line for each cell above 0. Gives their number.
+        fn list_point(table: &[u32], lists: &mut [u16], width: usize, y: usize) -> usize {
+            let base = y * width;
+            let raised = 2 * y * width;
+            let lines = (2 * y + 1) * width;
+            let mut n = 0;
+            for c in 0..width {
+                if c == 0 || table[base + c] != 0 {
+                    lists[raised + n] = c as u16;
+                    lists[lines + n] = c as u16;
+                    n += 1;
+                }
             }
-            copy_cells(&source[start..], &mut target[start..], width);
-            1 << x
+            n
         }
 
-        // The cells of all points from one table to another; the set of the points whose cells differed.
-        pub fn copy_changed(source: &[u32], target: &mut [u32], points: usize, width: usize) -> usize {
-            let mut changed = 0;
-            for x in 0..points {
-                changed = changed | copy_changed_point(source, target, width, x);
+        // The lines of every point.
+        pub fn list_lines(
+            table: &[u32],
+            lists: &mut [u16],
+            counts: &mut [usize],
+            points: usize,
+            width: usize,
+        ) {
+            for y in 0..points {
+                let n = list_point(table, lists, width, y);
+                counts[2 * y] = n;
+                counts[2 * y + 1] = n;
             }
-            changed
         }
     }
 
     // One round from a lent table to another.
     mod making {
         use super::super::plan::cells;
-        use super::super::plan::points;
-        use super::super::plan::width as point_width;
-        use super::super::rules_fill::fill_point;
+        use super::super::rounds_points::lowest;
+        use super::super::rounds_points::without;
+        use super::super::rules_refill::refill_point;
 
-        // Fills the part of point x, which has the point's cells, unless none of its sources changed: it then keeps them.
-        fn refill_point(
-            plan: &[u8],
-            marks: &[u8; 256],
-            horizon: u64,
-            first: &[u32],
-            part: &mut [u32],
-            x: usize,
-            sources: usize,
-            changed: usize,
-        ) {
-            if sources & changed == 0 {
-                return;
-            }
-            fill_point(plan, marks, horizon, first, part, x);
-        }
-
-        // One round where the second table has the first's cells: only points with a source that changed are filled.
+        // One round where the second table has the first's cells: the points of a set are filled from the cells that the last round raised.
+        // Of each point it notes how many of its cells it raised, and their places.
         pub fn next_round(
             plan: &[u8],
             marks: &[u8; 256],
             horizon: u64,
             first: &[u32],
             second: &mut [u32],
-            sources: &[usize],
-            changed: usize,
+            lists: &[u16],
+            counts: &[usize],
+            rows: &[u16],
+            notes: &mut [u16],
+            noted: &mut [usize],
+            width: usize,
+            mask: usize,
+            set: usize,
+            over: bool,
         ) {
-            let n = points(plan);
-            let width = point_width(plan);
             let end = cells(plan);
-            for x in 0..n {
+            let mut left = set;
+            while left != 0 {
+                let x = lowest(left);
+                left = without(left, x);
                 let start = x * width;
-                refill_point(
+                noted[x] = refill_point(
                     plan,
                     marks,
                     horizon,
                     &first[..end],
+                    lists,
+                    counts,
+                    rows,
                     &mut second[start..],
+                    &mut notes[start..start + width],
+                    width,
+                    mask,
                     x,
-                    sources[x],
-                    changed,
+                    over,
                 );
             }
+        }
+    }
+
+    // After a round: its raised cells into the other table, and into the lists that the next round goes by.
+    mod settling {
+        use super::super::plan::cell_at;
+        use super::super::plan::widen_word;
+        use super::super::rounds_points::bit;
+        use super::super::rounds_points::lowest;
+        use super::super::rounds_points::without;
+
+        // One cell of a point, whose cells start at base, from one table to the other; a cell that was 0 is a line from now on.
+        // The point's lines are listed from `at` on; gives their number.
+        fn settle_cell(
+            source: &[u32],
+            target: &mut [u32],
+            lists: &mut [u16],
+            base: usize,
+            at: usize,
+            known: usize,
+            place: usize,
+            _width: usize,
+        ) -> usize {
+            let c = base + place;
+            let was = target[c];
+            target[c] = source[c];
+            if was != 0 {
+                return known;
+            }
+            if place == 0 {
+                return known;
+            }
+            lists[at + known] = place as u16;
+            known + 1
+        }
+
+        // The n noted cells of point y: they are its raised cells of the next round. Gives the number of its lines.
+        fn settle_point(
+            source: &[u32],
+            target: &mut [u32],
+            notes: &[u16],
+            n: usize,
+            lists: &mut [u16],
+            known: usize,
+            width: usize,
+            y: usize,
+        ) -> usize {
+            let base = y * width;
+            let raised = 2 * y * width;
+            let lines = (2 * y + 1) * width;
+            let mut lined = known;
+            for i in 0..n {
+                let place = notes[base + i];
+                lists[raised + i] = place;
+                lined = settle_cell(source, target, lists, base, lines, lined, widen_word(place), width);
+            }
+            lined
+        }
+
+        // The noted cells of the points of a set, which has all points with notes or raised places. Gives the set of the points that have notes; then none has.
+        pub fn settle(
+            source: &[u32],
+            target: &mut [u32],
+            notes: &[u16],
+            noted: &mut [usize],
+            lists: &mut [u16],
+            counts: &mut [usize],
+            _points: usize,
+            width: usize,
+            set: usize,
+        ) -> usize {
+            let mut left = set;
+            let mut changed = 0;
+            while left != 0 {
+                let y = lowest(left);
+                left = without(left, y);
+                let n = noted[y];
+                noted[y] = 0;
+                counts[2 * y] = n;
+                if n != 0 {
+                    counts[2 * y + 1] =
+                        settle_point(source, target, notes, n, lists, counts[2 * y + 1], width, y);
+                    changed = changed | bit(y);
+                }
+            }
+            changed
+        }
+
+        // The points with a line beside the starting line: those that had one, and changed points that have one.
+        pub fn lined_after(counts: &[usize], _points: usize, changed: usize, lined: usize) -> usize {
+            let mut left = changed;
+            let mut found = lined;
+            while left != 0 {
+                let y = lowest(left);
+                left = without(left, y);
+                if 1 < counts[2 * y + 1] {
+                    found = found | bit(y);
+                }
+            }
+            found
+        }
+
+        // Whether one of n listed cells of a point waits longer than the horizon.
+        fn any_over(
+            table: &[u32],
+            lists: &[u16],
+            base: usize,
+            start: usize,
+            n: usize,
+            _width: usize,
+            horizon: u64,
+        ) -> bool {
+            for i in 0..n {
+                let c = widen_word(lists[start + i]);
+                if horizon < cell_at(table, base + c) {
+                    return true;
+                }
+            }
+            false
+        }
+
+        // Whether a raised cell of one of the changed points waits longer than the horizon.
+        pub fn over_horizon(
+            table: &[u32],
+            lists: &[u16],
+            counts: &[usize],
+            _points: usize,
+            width: usize,
+            changed: usize,
+            horizon: u64,
+        ) -> bool {
+            let mut left = changed;
+            while left != 0 {
+                let y = lowest(left);
+                left = without(left, y);
+                if any_over(table, lists, y * width, 2 * y * width, counts[2 * y], width, horizon) {
+                    return true;
+                }
+            }
+            false
         }
     }
 }
@@ -1331,28 +2332,64 @@ mod rounds {
         use super::super::plan::points;
         use super::super::plan::width as point_width;
         use super::super::plan_refusal::refusal;
-        use super::super::rounds_sources::find_sources;
-        use super::super::rounds_sources::ALL_POINTS;
+        use super::super::rounds_points::concerned;
+        use super::super::rounds_points::find_dependents;
+        use super::super::rounds_points::find_givers;
         use super::super::rounds_tables::clear_cells;
-        use super::super::rounds_tables::copy_changed;
         use super::super::rounds_tables::first_alarm_waits;
+        use super::super::rounds_tables::lined_after;
+        use super::super::rounds_tables::list_lines;
         use super::super::rounds_tables::next_round;
+        use super::super::rounds_tables::over_horizon;
         use super::super::rounds_tables::same_cells;
-        use super::super::rules_fill::copy_cells;
+        use super::super::rounds_tables::settle;
+        use super::super::rules_fill::label_mask;
+        use super::super::rules_rows::read_rows;
         use super::Answer;
 
-        // Whether the round from the first table to the second stops the rounds.
-        fn stops(first: &[u32], second: &[u32], points: usize, width: usize) -> bool {
-            if first_alarm_waits(second, width) {
+        // Whether a round that changed these points stops the rounds: the first alarm waits, or both tables agree. They are compared where no point changed.
+        fn stops(
+            first: &[u32],
+            second: &[u32],
+            points: usize,
+            width: usize,
+            waits: bool,
+            changed: usize,
+        ) -> bool {
+            if waits {
                 return true;
+            }
+            if changed & 1 != 0 {
+                return true;
+            }
+            if changed != 0 {
+                return false;
             }
             same_cells(first, second, points, width)
         }
 
-        // A round made: whether it stops the rounds, and the set of the points that it changed.
+        // The points to fill in a round: those that it concerns, and the first alarm where a raised cell is over the horizon.
+        fn points_to_fill(
+            sets: &[usize],
+            n: usize,
+            changed: usize,
+            lined: usize,
+            givers: usize,
+            over: bool,
+        ) -> usize {
+            let found = concerned(sets, n, changed, lined, givers);
+            if over {
+                return found | 1;
+            }
+            found
+        }
+
+        // A round made: whether it stops the rounds, the points that it changed, those with a line beside the starting line, and whether a raised cell is over the horizon.
         pub struct Round {
             pub stops: bool,
             pub changed: usize,
+            pub lined: usize,
+            pub over: bool,
         }
 
         // One round of both tables, which have the same cells before it and after it.
@@ -1362,14 +2399,28 @@ mod rounds {
             horizon: u64,
             first: &mut [u32],
             second: &mut [u32],
-            sources: &[usize],
-            changed: usize,
+            lists: &mut [u16],
+            counts: &mut [usize],
+            notes: &mut [u16],
+            noted: &mut [usize],
+            rows: &[u16],
+            width: usize,
+            mask: usize,
+            set: usize,
+            last: Round,
         ) -> Round {
             let n = points(plan);
-            let width = point_width(plan);
-            next_round(plan, marks, horizon, first, second, sources, changed);
-            let ended = stops(first, second, n, width);
-            Round { stops: ended, changed: copy_changed(second, first, n, width) }
+            next_round(
+                plan, marks, horizon, first, second, lists, counts, rows, notes, noted, width, mask, set,
+                last.over,
+            );
+            let changed = settle(second, first, notes, noted, lists, counts, n, width, set | last.changed);
+            Round {
+                stops: stops(first, second, n, width, last.stops, changed),
+                changed: changed,
+                lined: lined_after(counts, n, changed, last.lined),
+                over: over_horizon(second, lists, counts, n, width, changed, horizon),
+            }
         }
 
         // The answer of the round that stopped.
@@ -1380,7 +2431,180 @@ mod rounds {
             Answer::Kept(made)
         }
 
-        // Rounds from two tables with the same cells, up to the limit. Before the first round every point counts as changed.
+        // Rounds from two tables with the same cells, up to the limit, with what is known of them in the lists.
+        fn rounds_from(
+            plan: &[u8],
+            marks: &[u8; 256],
+            horizon: u64,
+            first: &mut [u32],
+            second: &mut [u32],
+            limit: u64,
+            lists: &mut [u16],
+            counts: &mut [usize],
+            notes: &mut [u16],
+            lined: usize,
+            over: bool,
+        ) -> Answer {
+            let n = points(plan);
+            let width = point_width(plan);
+            let mask = label_mask(plan);
+            let mut rows = [0u16; 692];
+            read_rows(plan, &mut rows);
+            let mut dependents = [0usize; 32];
+            find_dependents(plan, &mut dependents);
+            let givers = find_givers(plan);
+            let mut noted = [0usize; 32];
+            let mut last = Round {
+                stops: first_alarm_waits(first, width),
+                changed: (1 << n) - 1,
+                lined: lined,
+                over: over,
+            };
+            let mut made = 0;
+            while made < limit {
+                made += 1;
+                let set = points_to_fill(&dependents, n, last.changed, last.lined, givers, last.over);
+                last = make_round(
+                    plan, marks, horizon, first, second, lists, counts, notes, &mut noted, &rows, width,
+                    mask, set, last,
+                );
+                if last.stops {
+                    return ending(second, width, made);
+                }
+            }
+            Answer::Spent(made)
+        }
+
+        // The lists before the first round. A table of zeros has the starting lines alone, and so do lists of zeros; else all lines are listed. Gives a set that has
+        // the points with more lines.
+        fn first_lists(
+            plan: &[u8],
+            first: &[u32],
+            lists: &mut [u16],
+            counts: &mut [usize],
+            zeros: bool,
+        ) -> usize {
+            if zeros {
+                return 0;
+            }
+            let n = points(plan);
+            list_lines(first, lists, counts, n, point_width(plan));
+            (1 << n) - 1
+        }
+
+        // Rounds with lists of four sizes, so that small plans pay nothing for large ones.
+        fn run_tiny(
+            plan: &[u8],
+            marks: &[u8; 256],
+            horizon: u64,
+            first: &mut [u32],
+            second: &mut [u32],
+            limit: u64,
+            zeros: bool,
+        ) -> Answer {
+            let mut lists = [0u16; 128];
+            let mut notes = [0u16; 64];
+            let mut counts = [1usize; 64];
+            let lined = first_lists(plan, first, &mut lists, &mut counts, zeros);
+            rounds_from(
+                plan,
+                marks,
+                horizon,
+                first,
+                second,
+                limit,
+                &mut lists,
+                &mut counts,
+                &mut notes,
+                lined,
+                !zeros,
+            )
+        }
+
+        fn run_small(
+            plan: &[u8],
+            marks: &[u8; 256],
+            horizon: u64,
+            first: &mut [u32],
+            second: &mut [u32],
+            limit: u64,
+            zeros: bool,
+        ) -> Answer {
+            let mut lists = [0u16; 1024];
+            let mut notes = [0u16; 512];
+            let mut counts = [1usize; 64];
+            let lined = first_lists(plan, first, &mut lists, &mut counts, zeros);
+            rounds_from(
+                plan,
+                marks,
+                horizon,
+                first,
+                second,
+                limit,
+                &mut lists,
+                &mut counts,
+                &mut notes,
+                lined,
+                !zeros,
+            )
+        }
+
+        fn run_middle(
+            plan: &[u8],
+            marks: &[u8; 256],
+            horizon: u64,
+            first: &mut [u32],
+            second: &mut [u32],
+            limit: u64,
+            zeros: bool,
+        ) -> Answer {
+            let mut lists = [0u16; 4096];
+            let mut notes = [0u16; 2048];
+            let mut counts = [1usize; 64];
+            let lined = first_lists(plan, first, &mut lists, &mut counts, zeros);
+            rounds_from(
+                plan,
+                marks,
+                horizon,
+                first,
+                second,
+                limit,
+                &mut lists,
+                &mut counts,
+                &mut notes,
+                lined,
+                !zeros,
+            )
+        }
+
+        fn run_large(
+            plan: &[u8],
+            marks: &[u8; 256],
+            horizon: u64,
+            first: &mut [u32],
+            second: &mut [u32],
+            limit: u64,
+            zeros: bool,
+        ) -> Answer {
+            let mut lists = [0u16; 32768];
+            let mut notes = [0u16; 16384];
+            let mut counts = [1usize; 64];
+            let lined = first_lists(plan, first, &mut lists, &mut counts, zeros);
+            rounds_from(
+                plan,
+                marks,
+                horizon,
+                first,
+                second,
+                limit,
+                &mut lists,
+                &mut counts,
+                &mut notes,
+                lined,
+                !zeros,
+            )
+        }
+
         fn rounds_to(
             plan: &[u8],
             marks: &[u8; 256],
@@ -1388,44 +2612,34 @@ mod rounds {
             first: &mut [u32],
             second: &mut [u32],
             limit: u64,
+            zeros: bool,
         ) -> Answer {
-            let width = point_width(plan);
-            let mut sources = [0usize; 32];
-            find_sources(plan, &mut sources);
-            let mut changed = ALL_POINTS;
-            let mut made = 0;
-            while made < limit {
-                made += 1;
-                let round = make_round(plan, marks, horizon, first, second, &sources, changed);
-                if round.stops {
-                    return ending(second, width, made);
-                }
-                changed = round.changed;
+            let end = cells(plan);
+            if end <= 64 {
+                return run_tiny(plan, marks, horizon, first, second, limit, zeros);
             }
-            Answer::Spent(made)
+            if end <= 512 {
+                return run_small(plan, marks, horizon, first, second, limit, zeros);
+            }
+            if end <= 2048 {
+                return run_middle(plan, marks, horizon, first, second, limit, zeros);
+            }
+            run_large(plan, marks, horizon, first, second, limit, zeros)
         }
 
-        // Rounds from the first table's cells, up to the limit; both tables then hold the last round's table.
-        pub fn run(
+        // Rounds from zeros, with a horizon that is no shorter than the plan's own.
+        pub fn run_from_zeros(
             plan: &[u8],
-            marks: &[u8; 256],
             horizon: u64,
             first: &mut [u32],
             second: &mut [u32],
             limit: u64,
         ) -> Answer {
             let end = cells(plan);
-            copy_cells(first, second, end);
-            rounds_to(plan, marks, horizon, first, second, limit)
-        }
-
-        // The check of an accepted plan with tables that are long enough: rounds from zeros.
-        fn checked(plan: &[u8], first: &mut [u32], second: &mut [u32], limit: u64) -> Answer {
-            let end = cells(plan);
             clear_cells(first, end);
+            clear_cells(second, end);
             let marks = plain_marks();
-            let horizon = horizon_of(plan);
-            run(plan, &marks, horizon, first, second, limit)
+            rounds_to(plan, &marks, horizon, first, second, limit, true)
         }
 
         // Kept or broken with R, spent with the limit, or refused with the refusal's number; refused, the tables are untouched.
@@ -1441,7 +2655,7 @@ mod rounds {
             if second.len() < end {
                 return Answer::Refused(6);
             }
-            checked(plan, first, second, limit)
+            run_from_zeros(plan, horizon_of(plan), first, second, limit)
         }
     }
 }

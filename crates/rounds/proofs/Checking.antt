@@ -1,4 +1,4 @@
--- Laws of the check: what it answers and leaves where it refuses, and what rounds from zeros make of the tables.
+-- Laws of the check: what it answers and leaves where it refuses, and what rounds from zeros are lent and make of the tables.
 use mathlib.Core.Path.{_≡_, refl, sym, ap, ap₂, subst, _∙_}
 use mathlib.Core.Bool.{true, false}
 use mathlib.Core.Logic.{_⊎_, inl, inr}
@@ -11,19 +11,20 @@ use lib.Dec.{eqb}
 use lib.ListN.{length, getD, take, drop, replicate, length-replicate, List·getD-eq-default}
 use borrow.Author.Tests.{lt-ltb, le-ltb, eq-eqb, ne-eqb}
 use Rattle.plan.specs.Moments.{Moments}
+use Rattle.plan.specs.Label.{Marks}
 use Rattle.plan.specs.Plan.{Plan, cells}
 use Rattle.plan.specs.Layout.{planOf}
 use Rattle.plan.specs.Horizons.{planWith}
 use Rattle.plan.specs.Refusal.{Accepted, refusal}
 use Rattle.plan.proofs.Ranges.{WellFormed, accepted-bounded}
-use Rattle.plan.proofs.Horizons.{own-horizon}
+use Rattle.plan.proofs.Horizons.{own-horizon, with-well-formed}
 use Rattle.plan.proofs.RefusalNumbers.{refusal-few}
 use Rattle.rules_fill.specs.Parts.{laidOver}
 use Rattle.rounds.specs.Rounds.{tableFrom, zeros, roundsTo}
 use Rattle.rounds.specs.Outcomes.{Outcome, refused, runOutcome, runTable, tooShort, checkOutcome, checkTable}
 use Rattle.rounds.specs.Meaning.{Meaning}
 use Rattle.rounds.specs.AfterCheck.{AfterCheck}
-use Rattle.rounds.specs.Runs.{RoomFrom, Ran, ZerosLent, RanFromZeros}
+use Rattle.rounds.specs.Runs.{RoomFrom, RunLent, Ran, ZerosLent, RanFromZeros}
 use Rattle.rounds.proofs.Stopping.{none-runs}
 use Rattle.rounds.proofs.Small.{table-length, table-high}
 use Rattle.rounds.proofs.Meanings.{refused-means, run-means-bytes, decided}
@@ -102,29 +103,42 @@ module _ (P : Plan) (wf : WellFormed P) (room : P .horizon + P .largest ≤ 4000
   zeros-room : RoomFrom P (zeros P)
   zeros-room = record { room = λ r e. record { cell = λ c. small r e c (decLe (cells P) c) } }
 
-  -- the first table's cells were cleared; the code's number e is the cells
-  module _ (F F₀ : List ℕ) (e : ℕ) (ee : e ≡ cells P) (cleared : F ≡ laidOver e (replicate e 0) F₀) where
-    over : F ≡ laidOver (cells P) (zeros P) F₀
-    over = cleared ∙ ap (λ (x : ℕ). laidOver x (replicate x 0) F₀) ee
+-- a table's cells were cleared; the code's number e is the cells
+module _ (P : Plan) (F F₀ : List ℕ) (e : ℕ) (ee : e ≡ cells P) (cleared : F ≡ laidOver e (replicate e 0) F₀) where
+  over : F ≡ laidOver (cells P) (zeros P) F₀
+  over = cleared ∙ ap (λ (x : ℕ). laidOver x (replicate x 0) F₀) ee
 
-    front : take (cells P) F ≡ zeros P
-    front = ap (take (cells P)) over ∙ front-is (cells P) (zeros P) F₀ (length-replicate (cells P) 0)
+  front : take (cells P) F ≡ zeros P
+  front = ap (take (cells P)) over ∙ front-is (cells P) (zeros P) F₀ (length-replicate (cells P) 0)
 
-    pub cleared-room : RoomFrom P (take (cells P) F)
-    cleared-room = rw front zeros-room
-
-    pub cleared-ran : (limit : ℕ) (o : Outcome) (first second : Moments) → first .entry ≡ F₀ → length F ≡ length F₀ → Ran P F (second .entry) limit o (first .exit) (second .exit) → RanFromZeros P limit first second o
-    cleared-ran limit o first second at long r = record {
-      outcome-is = r .outcome-is ∙ ap (λ (l : List ℕ). runOutcome P l limit) front;
-      first-is = r .first-is ∙ ap₂ (λ (l m : List ℕ). runTable P l limit ++ m) front (ap (drop (cells P)) over ∙ back-is (cells P) (zeros P) F₀ (length-replicate (cells P) 0) ∙ ap (drop (cells P)) (sym at));
-      second-is = r .second-is ∙ ap (λ (l : List ℕ). runTable P l limit ++ drop (cells P) (second .entry)) front;
-      first-length = r .first-length ∙ long ∙ ap length (sym at);
-      second-length = r .second-length;
-    }
+  back : drop (cells P) F ≡ drop (cells P) F₀
+  back = ap (drop (cells P)) over ∙ back-is (cells P) (zeros P) F₀ (length-replicate (cells P) 0)
 
 -- the horizon and M of what rounds from zeros are lent leave room for a duration in 32 bits
-pub lent-room : (bs : List ℕ) (h : ℕ) (F G : List ℕ) → ZerosLent bs h F G → h + planOf bs .largest ≤ 4000000000
+lent-room : (bs : List ℕ) (h : ℕ) (F G : List ℕ) → ZerosLent bs h F G → h + planOf bs .largest ≤ 4000000000
 lent-room bs h F G lent = omega (arith, lent .horizon-near, accepted-bounded bs (lent .accepted) .largest-in)
+
+-- both tables' cells were cleared
+module _ (bs : List ℕ) (h : ℕ) (F F₀ G G₀ : List ℕ) (e : ℕ) (lent : ZerosLent bs h F₀ G₀) (ee : e ≡ cells (planOf bs)) (f : F ≡ laidOver e (replicate e 0) F₀) (g : G ≡ laidOver e (replicate e 0) G₀) (lf : length F ≡ length F₀) (lg : length G ≡ length G₀) where
+  first-none : take (cells (planOf bs)) F ≡ zeros (planOf bs)
+  first-none = front (planOf bs) F F₀ e ee f
+
+  pub cleared-lent : (M : List ℕ) → Marks M → RunLent bs M h F G true
+  cleared-lent M marked = record {
+    ready = record { accepted = lent .accepted; marked = marked; horizon-far = lent .horizon-far; long-first = rw lf (lent .long-first); long-second = rw lg (lent .long-second) };
+    room-from = rw first-none (zeros-room (planWith bs h) (with-well-formed bs (lent .accepted) h (lent .horizon-far)) (lent-room bs h F₀ G₀ lent));
+    same-cells = front (planOf bs) G G₀ e ee g ∙ sym first-none;
+    zeros-are = λ z. first-none;
+  }
+
+  pub cleared-ran : (limit : ℕ) (o : Outcome) (first second : Moments) → first .entry ≡ F₀ → second .entry ≡ G₀ → Ran (planWith bs h) F G limit o (first .exit) (second .exit) → RanFromZeros (planWith bs h) limit first second o
+  cleared-ran limit o first second ef eg r = record {
+    outcome-is = r .outcome-is ∙ ap (λ (l : List ℕ). runOutcome (planWith bs h) l limit) first-none;
+    first-is = r .first-is ∙ ap₂ (λ (l m : List ℕ). runTable (planWith bs h) l limit ++ m) first-none (back (planOf bs) F F₀ e ee f ∙ ap (drop (cells (planOf bs))) (sym ef));
+    second-is = r .second-is ∙ ap₂ (λ (l m : List ℕ). runTable (planWith bs h) l limit ++ m) first-none (back (planOf bs) G G₀ e ee g ∙ ap (drop (cells (planOf bs))) (sym eg));
+    first-length = r .first-length ∙ lf ∙ ap length (sym ef);
+    second-length = r .second-length ∙ lg ∙ ap length (sym eg);
+  }
 
 -- what they are lent with the plan's own horizon
 pub own-lent : (bs : List ℕ) (h : ℕ) (F G : List ℕ) → Accepted bs → h ≡ planOf bs .horizon → cells (planOf bs) ≤ length F → cells (planOf bs) ≤ length G → ZerosLent bs h F G

@@ -3,3 +3,4 @@ pub mod Outcomes
 pub mod Meaning
 pub mod AfterCheck
 pub mod Runs
+pub mod Making

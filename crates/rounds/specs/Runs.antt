@@ -1,32 +1,30 @@
 -- For inner contracts only: what the functions that make rounds are lent, and what they leave there. Nothing here is to be believed.
 use mathlib.Core.Path.{_≡_}
-use mathlib.Core.Bool.{Bool, _||_}
+use mathlib.Core.Bool.{Bool, true}
 use mathlib.Core.List.{List, _++_}
 use mathlib.Core.Option.{none}
 use Prim.Native.Nat.{ℕ, _*_, _≤_}
 use lib.ListN.{length, take, drop}
 use Rattle.plan.specs.Moments.{Moments}
-use Rattle.plan.specs.Plan.{Plan, width, cells}
+use Rattle.plan.specs.Plan.{Plan, cells}
 use Rattle.plan.specs.Layout.{planOf}
+use Rattle.plan.specs.Horizons.{planWith}
 use Rattle.plan.specs.Refusal.{mostSeconds, Accepted}
-use Rattle.rules_fill.specs.Parts.{nextCells, AtMost, laidOver}
-use Rattle.rounds_tables.specs.Cells.{same}
-use Rattle.rounds_tables.specs.Changes.{changedPoints}
-use Rattle.rounds.specs.Rounds.{tableFrom, zeros, firstAlarmWaits, roundsTo}
+use Rattle.rules_fill.specs.Parts.{AtMost}
+use Rattle.rounds_tables.specs.Ready.{Ready}
+use Rattle.rounds.specs.Rounds.{tableFrom, zeros, roundsTo}
 use Rattle.rounds.specs.Outcomes.{Outcome, runOutcome, runTable}
 
 -- the waits of the rounds from T leave room for a duration in 32 bits while none stopped
 pub record RoomFrom (P : Plan) (T : List ℕ) : Type 0 where
   pub room : (r : ℕ) → roundsTo P T r ≡ none → AtMost 4000000000 (tableFrom P T r)
 
--- one round from the cells of F left its table in the cells of both tables; whether it stops, and the points whose cells it changed
-pub record RoundMade (P : Plan) (F G : List ℕ) (stops : Bool) (changed : ℕ) (F′ G′ : List ℕ) : Type 0 where
-  pub stops-is : stops ≡ firstAlarmWaits P (nextCells P F) || same (take (cells P) F) (nextCells P F)
-  pub changed-is : changed ≡ changedPoints (width P) (P .points) G′ F
-  pub first-is : F′ ≡ laidOver (cells P) (nextCells P F) F
-  pub second-is : G′ ≡ laidOver (cells P) (nextCells P F) G
-  pub first-length : length F′ ≡ length F
-  pub second-length : length G′ ≡ length G
+-- what rounds from a table are lent: two tables with the same cells; zeros, where that is said
+pub record RunLent (plan marks : List ℕ) (horizon : ℕ) (first second : List ℕ) (none : Bool) : Type 0 where
+  pub ready : Ready plan marks horizon first second
+  pub room-from : RoomFrom (planWith plan horizon) (take (cells (planOf plan)) first)
+  pub same-cells : take (cells (planOf plan)) second ≡ take (cells (planOf plan)) first
+  pub zeros-are : none ≡ true → take (cells (planOf plan)) first ≡ zeros (planOf plan)
 
 -- what rounds from zeros are lent: an accepted plan, a horizon from the plan's own up to the longest of any plan, and two tables that have all cells
 pub record ZerosLent (plan : List ℕ) (horizon : ℕ) (first second : List ℕ) : Type 0 where

@@ -1,3 +1,12 @@
 pub mod Comparing
-pub mod ChangedPoints
 pub mod RoundLaws
+pub mod Covering
+pub mod Affected
+mod Refilled
+mod RoundByPoints
+mod LineLists
+mod ListLaws
+mod NotedLaws
+mod Copying
+mod Walking
+mod SettleLaws

@@ -7,8 +7,8 @@ use native.Mathlib.Nat.{le-refl, suc-mul, mul-le-mul-right}
 use native.Mathlib.Numerals.{add-one}
 use native.Mathlib.Omega.{arith}
 use borrow.Rule.Slice.PartMut.{putMid, same-len-mid}
-use lib.ListN.{length, getD, take, drop, replicate, set, length-take, length-drop, length-replicate, getD-replicate, take-append-drop}
-use lib.Seq.{take-suc, take-take, length-take-le, getD-take}
+use lib.ListN.{length, getD, take, drop, replicate, set, length-take, length-drop, length-replicate, getD-replicate}
+use lib.Seq.{take-suc, take-take, length-take-le, getD-take, getD-drop, ext-getD, drop-at}
 use Rattle.plan.specs.Plan.{Plan, width, cells}
 use Rattle.plan.specs.Layout.{planOf}
 use Rattle.plan.specs.Horizons.{planWith}
@@ -20,11 +20,9 @@ use Rattle.rules.proofs.Next.{next-is}
 use Rattle.rules_fill.proofs.ShapeLaws.{row-in}
 use Rattle.rules_fill.specs.Lent.{Lent}
 use Rattle.rules_fill.proofs.Laying.{laid-more, lent-part, laid-part-back}
-use Rattle.rounds_sources.proofs.SourceLaws.{set-at}
 use Rattle.rounds_tables.specs.Cells.{same, anyAbove}
-use Rattle.rounds_tables.specs.Ready.{Ready, RoundLent, PointLent}
+use Rattle.rounds_tables.specs.Ready.{Ready}
 use Rattle.rounds_tables.proofs.Comparing.{same-eq, none-above, some-above}
-use Rattle.rounds_tables.proofs.ChangedPoints.{row-cut, row-past}
 
 -- ---- what the loops find
 -- one cell more agrees
@@ -124,25 +122,3 @@ module _ (bs M : List ℕ) (h : ℕ) (F B : List ℕ) (ready : Ready bs M h F B)
 -- the code's numbers n and w are the points and the cells of a point
 pub all-laid : (P : Plan) (N B C : List ℕ) (x n w : ℕ) → x ≡ n → n ≡ P .points → w ≡ width P → C ≡ laidOver (x * w) N B → C ≡ laidOver (cells P) N B
 all-laid P N B C x n w e en ew laid = laid ∙ ap (λ (m : ℕ). laidOver m N B) (ap₂ (λ (a b : ℕ). a * b) (e ∙ en) ew)
-
--- a round that passes over points: the lent part has the point's cells, as the second table had the first's
-module _ (bs M : List ℕ) (h : ℕ) (F B sets : List ℕ) (changed : ℕ) (lent : RoundLent bs M h F B sets changed) where
-  pub point-lent : (w e x : ℕ) (C : List ℕ) → AtPoint bs h F B w e x C → PointLent bs h (take e F) (take (length C - x * w) (drop (x * w) C)) x (getD sets x 0) changed
-  point-lent w e x C p =
-      let P = planWith bs h in
-      let r = lent .ready in
-      let ew = p .width-is in
-      let N = nextCells P F in
-      let sized : length N ≡ cells P = next-length P (with-well-formed bs (r .accepted) h (r .horizon-far)) F (r .long-first) in
-      let row : x * w + w ≤ cells P = row-in P x (cells P) w x (p .x-in) (le-refl (cells P)) ew refl in
-      let same-cut : take (cells P) (take e F) ≡ take (cells P) F = take-take (cells P) e F (omega (arith, p .cells-is)) in
-      let whole : take (width P) (take (length C - x * w) (drop (x * w) C)) ≡ take w (drop (x * w) C) = ap₂ take (sym ew) (lent-part (x * w) C) in record {
-        cells-are = whole ∙ row-past (x * w) w N B C (omega arith) (p .laid) ∙ sym (row-cut (x * w) w (cells P) B row (r .long-second))
-            ∙ ap (λ (l : List ℕ). take w (drop (x * w) l)) (lent .same-cells ∙ sym same-cut) ∙ ap (λ (v : ℕ). take v (drop (x * v) (take (cells P) (take e F)))) ew;
-        sources-are = set-at P sets (lent .sets-are) x (p .x-in);
-        unaffected = rw same-cut (lent .unaffected);
-      }
-
--- a part that has the point's cells, which the round keeps
-pub part-kept : (w : ℕ) (L M N : List ℕ) → take w L ≡ M → N ≡ M → L ≡ N ++ drop w L
-part-kept w L M N e k = sym (take-append-drop w L) ∙ ap (λ (l : List ℕ). l ++ drop w L) (e ∙ sym k)

@@ -1,3 +1,4 @@
 pub mod Cells
-pub mod Changes
 pub mod Ready
+pub mod Known
+pub mod Settling

@@ -1,12 +1,10 @@
-// The first cells of lent tables: whether they agree, whether one is above 0, zeros, and a copy of those that differ.
-use rules_fill::copy_cells;
+// The first cells of lent tables: whether they agree, whether one is above 0, and zeros.
 ghost use mathlib.Core.Path.{_≡_};
-ghost use Prim.Native.Nat.{_+_, _*_, _<_, _≤_};
+ghost use Prim.Native.Nat.{_+_, _*_, _≤_};
 ghost use lib.ListN.{length, take, replicate};
 ghost use Rattle.plan.specs.Moments.{before, after, SameLength};
 ghost use Rattle.rules_fill.specs.Parts.{laidOver};
 ghost use Rattle.rounds_tables.specs.Cells.{same, anyAbove};
-ghost use Rattle.rounds_tables.specs.Changes.{changedPoint, changedPoints, withPoint};
 
 // Whether the first cells of two tables agree, point by point up to the first cell that differs.
 pub fn same_cells(first: &[u32], second: &[u32], points: usize, width: usize) -> bool
@@ -48,33 +46,4 @@ pub fn clear_cells(table: &mut [u32], n: usize)
     for c in 0..n {
         table[c] = 0;
     }
-}
-
-// The cells of point x from one table to another, unless they agree; the point's bit if they differed, else 0.
-fn copy_changed_point(source: &[u32], target: &mut [u32], width: usize, x: usize) -> usize
-    requires { ⌜ (x * width + width ≤ length (now source)) × (x * width + width ≤ length (now target)) × (x < 32) ⌝ }
-    ensures { λ _. ⌜ after target ≡ withPoint width x (before source) (before target) ⌝ }
-    ensures { λ r. ⌜ r ≡ changedPoint width (before source) (before target) x ⌝ }
-    ensures { λ _. ⌜ SameLength target ⌝ }
-{
-    let start = x * width;
-    if same_cells(&source[start..], &target[start..], 1, width) {
-        return 0;
-    }
-    copy_cells(&source[start..], &mut target[start..], width);
-    1 << x
-}
-
-// The cells of all points from one table to another; the set of the points whose cells differed.
-pub fn copy_changed(source: &[u32], target: &mut [u32], points: usize, width: usize) -> usize
-    requires { ⌜ (points * width ≤ length (now source)) × (points * width ≤ length (now target)) × (points ≤ 32) ⌝ }
-    ensures { λ _. ⌜ after target ≡ laidOver (points * width) (before source) (before target) ⌝ }
-    ensures { λ r. ⌜ r ≡ changedPoints width points (before source) (before target) ⌝ }
-    ensures { λ _. ⌜ SameLength target ⌝ }
-{
-    let mut changed = 0;
-    for x in 0..points {
-        changed = changed | copy_changed_point(source, target, width, x);
-    }
-    changed
 }

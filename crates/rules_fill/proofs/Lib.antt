@@ -1,10 +1,10 @@
 pub mod PartLaws
-mod StepLaws
+pub mod StepLaws
 pub mod PointLaws
 pub mod ShapeLaws
-mod ShapeGives
+pub mod ShapeGives
 mod ShapeRows
-mod ShapeWhole
+pub mod ShapeWhole
 pub mod Laying
 mod Runs
-mod Lending
+pub mod Lending

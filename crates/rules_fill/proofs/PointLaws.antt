@@ -120,7 +120,7 @@ module _ (P : Plan) (wf : WellFormed P) (A : List ℕ) (len : length A ≡ cells
   line-place y t = div-add-mod' t (4 ^ P .propositions)
 
   -- a line of these loops is a line of the table
-  line-parent : (y t : ℕ) → y < P .points → t < width P → Is (isLine P A y t) → Parent P (Cell P A) (lineOf P A y t)
+  pub line-parent : (y t : ℕ) → y < P .points → t < width P → Is (isLine P A y t) → Parent P (Cell P A) (lineOf P A y t)
   line-parent y t h k i = go (decLe 1 (waitAt P A y t))
     where
       go : Dec (1 ≤ waitAt P A y t) → Parent P (Cell P A) (lineOf P A y t)
@@ -174,7 +174,7 @@ module _ (P : Plan) (wf : WellFormed P) (A : List ℕ) (len : length A ≡ cells
     count-in (LiteralRemoval j) = le-refl _
 
     -- what a pair of places gives is given by the rules
-    pair-given : (r : Rule) → InPlan P r → (t u : ℕ) → t < width P → u < secondCount P r → Is (gives P A x r t u) → Given P (Cell P A) (givenLine P A x r t u) × (givenLine P A x r t u .point ≡ x)
+    pub pair-given : (r : Rule) → InPlan P r → (t u : ℕ) → t < width P → u < secondCount P r → Is (gives P A x r t u) → Given P (Cell P A) (givenLine P A x r t u) × (givenLine P A x r t u .point ≡ x)
     pair-given r h t u k m g = (record { rule = r; row = h; first = firstOf P A x r t; second = secondOf P A r u; first-is = line-parent (firstPoint P r x) t (first-in r h) k (and-l a b (and-l (a && b) c (and-l (a && b && c) d g))); second-is = line-parent (secondPoint P r) u (second-in r h) (le-trans m (count-in r)) (and-r a b (and-l (a && b) c (and-l (a && b && c) d g))); fire = and-r (a && b) c (and-l (a && b && c) d g); gave = refl }, eqb→eq _ _ (and-r (a && b && c) d g))
       where
         a : Bool
@@ -297,7 +297,7 @@ module _ (P : Plan) (wf : WellFormed P) (A : List ℕ) (len : length A ≡ cells
         let e : lineOf P A (P .observer j) (n .place-of) ≡ waiting m (n .to) = ap (λ (y : ℕ). lineOf P A y (n .place-of)) (sym (f .1)) ∙ n .line-is in
         (n .place-of, n .place-in, subst (λ (y : ℕ). Is (isLine P A y (n .place-of))) (f .1) (n .is-line), subst (λ (z : Line). Fires P (LiteralRemoval j) (waiting l v) z) (sym e) (fires-mono P (LiteralRemoval j) l m v (n .to) h (n .no-less) f), _, result-mono P (LiteralRemoval j) l m v (n .to) h (n .no-less), ap (result P (LiteralRemoval j) (waiting l v)) e ∙ sym (result-cell P (LiteralRemoval j) l m v (n .to)))
 
-    all : (t w : ℕ) → t < width P → FromTable P A (x * width P + t) w → (v : ℕ) × (w ≤ v) × Row P A x t v
+    pub all : (t w : ℕ) → t < width P → FromTable P A (x * width P + t) w → (v : ℕ) × (w ≤ v) × Row P A x t v
     unfolding Second
     all t w h f = (s .4, omega (arith, s .5, f .wait-is, ap (λ (z : Line). z .wait) (g .gave)), record { rule = r; row = g .row; pair = record { first-place = n .place-of; second-place = s .0; first-lt = n .place-in; second-lt = s .1; does-give = going; place-is = sym (ap (place P) res ∙ ap (place P) (g .gave) ∙ k-place); wait-is = sym (ap (λ (z : Line). z .wait) res) } })
       where

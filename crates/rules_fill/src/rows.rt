@@ -44,7 +44,7 @@ pub fn digit_mask(j: usize) -> usize
 }
 
 // The lower of a digit's two bits.
-fn digit_bit(j: usize) -> usize
+pub fn digit_bit(j: usize) -> usize
     requires { ⌜ j < 4 ⌝ }
     ensures { λ r. ⌜ r ≡ 4 ^ j ⌝ }
 {

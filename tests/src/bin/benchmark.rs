@@ -10,7 +10,7 @@ use std::fs;
 use std::path::Path;
 use std::time::{Duration, Instant};
 use sulgrach_tests::generate::rows::{kept, with_contradictions};
-use sulgrach_tests::generate::{plan_before_lengthening, slow_cycle, typical, Class, Random};
+use sulgrach_tests::generate::{cycle_among, plan_before_lengthening, slow_cycle, typical, Class, Random};
 use sulgrach_tests::library;
 use sulgrach_tests::port;
 use sulgrach_tests::second::{self, Verdict, EVERY_PLAN, MOST_EDGES};
@@ -130,7 +130,26 @@ fn main() {
         "the ten bench plans",
         (1..=10).map(|number| Case::new(format!("c{number}"), bench_plan(number), EVERY_PLAN)),
     );
+    growth();
     breaking_rows_of_every_kind();
+}
+
+/// What a round takes as a plan grows: one cycle of two points, and what grows
+/// beside it.
+fn growth() {
+    let cycle = |name: String, propositions, links, rows, labelled, rounds| {
+        Case::new(name, cycle_among(propositions, links, rows, labelled, rounds), EVERY_PLAN)
+    };
+    let rounds = [1_000, 10_000, 100_000, 900_000];
+    let rounds = rounds.map(|rounds| cycle(format!("{rounds} rounds"), 0, 0, 0, false, rounds));
+    run("growth: rounds", rounds.into_iter());
+    let rows = [0, 40, 80, 120].map(|rows| cycle(format!("{rows} more rows"), 0, 0, rows, false, 100_000));
+    run("growth: rows", rows.into_iter());
+    let sizes = [(0, 0), (2, 0), (3, 0), (4, 0), (4, 2)];
+    let cells = sizes.map(|(p, k)| cycle(format!("p {p}, k {k}"), p, k, 0, false, 100_000));
+    run("growth: cells that stay as they are", cells.into_iter());
+    let raised = [0, 1, 2, 3, 4].map(|p| cycle(format!("p {p}, every plain label"), p, 0, 0, true, 10_000));
+    run("growth: cells that each turn raises", raised.into_iter());
 }
 
 /// Broken plans alone.

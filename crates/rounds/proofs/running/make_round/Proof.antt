@@ -1,63 +1,79 @@
--- The round, its two tests on what it left in the second table, and the copy to the first.
-use denote.Ref.{now}
+-- The calls follow one another, each lent what the last one left.
+use mathlib.Core.Path.{refl, _∙_}
 use borrow.Author.Needs.{needs}
-use native.Mathlib.Omega.{arith}
-use Rattle.plan.specs.Horizons.{planWith}
-use Rattle.plan.proofs.Ranges.{sizes-few}
-use Rattle.plan.proofs.Horizons.{with-well-formed}
-use Rattle.rounds.proofs.RoundsMade.{stops-fit, copy-fits, round-made}
+use Rattle.rounds.proofs.RoundByRound.{fill-lends, settle-lends, lined-lends, over-lends, stops-lends, round-ends}
 use Rattle.rounds.proofs.running.make_round.Statement.{statement}
 use Rattle.rounds.proofs.running.make_round.Tie as tie
 
 points-requires : tie.Need-points-requires
 points-requires c κs = search needs
 
-width-requires : tie.Need-width-requires
-width-requires c κs = let s = c .before .before .before .before .before in sizes-few (now (s .args .plan)) (s .pre .ready .accepted)
-
 next-round-requires : tie.Need-next-round-requires
-next-round-requires c κs = search needs
+next-round-requires c κs = fill-lends (c .before .before .before .before .before .before .before .before .before .before .before .before .before .before .before .pre)
+
+settle-requires : tie.Need-settle-requires
+settle-requires c κs =
+    let f = c .before .before .before .before .before .before .before .before .before .before .before .before .before .next-round .ensures in
+    settle-lends (c .before .before .before .before .before .before .before .before .before .before .before .before .before .before .before .before .before .before .before .before .before .before .before .before .before .before .before .before .before .pre) _ _ _ _ (c .before .before .before .before .before .before .before .before .before .before .before .before .before .before .before .before .before .before .before .before .points .ensures .0) (f .0) (f .1 .0) (f .1 .1 .0) (f .1 .1 .1)
 
 stops-requires : tie.Need-stops-requires
 stops-requires c κs =
-    let b = c .before .before .before .before .before .before .before in
-    let s = b .before .before .before .before .before .before in
-    stops-fit (planWith (now (s .args .plan)) (s .args .horizon)) (with-well-formed _ (s .pre .ready .accepted) _ (s .pre .ready .horizon-far)) (b .width .result) _ _ (b .width .ensures .0) (c .before .before .before .before .next-round .ensures .1) (s .pre .ready .long-second) (b .before .points .result) _ (b .before .points .ensures .0) (s .pre .ready .long-first)
+    let f = c .before .before .before .before .before .before .before .before .before .before .before .before .before .before .before .before .before .before .before .before .before .before .before .before .next-round .ensures in
+    let t = c .before .before .before .before .before .before .before .before .before .before .settle .ensures in
+    stops-lends (c .before .before .before .before .before .before .before .before .before .before .before .before .before .before .before .before .before .before .before .before .before .before .before .before .before .before .before .before .before .before .before .before .before .before .before .before .before .before .before .before .pre) _ _ _ _ (c .before .before .before .before .before .before .before .before .before .before .before .before .before .before .before .before .before .before .before .before .before .before .before .before .before .before .before .before .before .before .before .points .ensures .0) (f .0) (f .1 .0) (f .1 .1 .0) _ _ _ _ _ (t .0) (t .1 .3) (t .1 .0)
 
-copy-changed-requires : tie.Need-copy-changed-requires
-copy-changed-requires c κs =
-    let b = c .before .before .before .before .before .before .before .before .before .before in
-    let s = b .before .before .before .before .before .before in
-    let f = copy-fits (now (s .args .plan)) (s .pre .ready .accepted) (b .before .points .result) (b .width .result) _ _ _ (b .before .points .ensures .0) (b .width .ensures .0) (c .before .before .before .before .before .before .before .next-round .ensures .1) (s .pre .ready .long-second) (s .pre .ready .long-first) in
-    (omega (arith, f), omega (arith, f), omega (arith, f))
+lined-after-requires : tie.Need-lined-after-requires
+lined-after-requires c κs =
+    let f = c .before .before .before .before .before .before .before .before .before .before .before .before .before .before .before .before .before .before .before .before .before .before .before .before .before .before .next-round .ensures in
+    let t = c .before .before .before .before .before .before .before .before .before .before .before .before .settle .ensures in
+    lined-lends (c .before .before .before .before .before .before .before .before .before .before .before .before .before .before .before .before .before .before .before .before .before .before .before .before .before .before .before .before .before .before .before .before .before .before .before .before .before .before .before .before .before .before .pre) _ _ _ _ (c .before .before .before .before .before .before .before .before .before .before .before .before .before .before .before .before .before .before .before .before .before .before .before .before .before .before .before .before .before .before .before .before .before .points .ensures .0) (f .0) (f .1 .0) (f .1 .1 .0) _ _ _ _ _ (t .0) (t .1 .3)
+
+over-horizon-requires : tie.Need-over-horizon-requires
+over-horizon-requires c κs =
+    let f = c .before .before .before .before .before .before .before .before .before .before .before .before .before .before .before .before .before .before .before .before .before .before .before .before .before .before .before .before .before .before .next-round .ensures in
+    let t = c .before .before .before .before .before .before .before .before .before .before .before .before .before .before .before .before .settle .ensures in
+    over-lends (c .before .before .before .before .before .before .before .before .before .before .before .before .before .before .before .before .before .before .before .before .before .before .before .before .before .before .before .before .before .before .before .before .before .before .before .before .before .before .before .before .before .before .before .before .before .before .pre) _ _ _ _ (c .before .before .before .before .before .before .before .before .before .before .before .before .before .before .before .before .before .before .before .before .before .before .before .before .before .before .before .before .before .before .before .before .before .before .before .before .before .points .ensures .0) (f .0) (f .1 .0) (f .1 .1 .0) _ _ _ _ _ (t .0) (t .1 .3)
 
 same-length : tie.Need-same-length
-same-length c = search needs
+same-length c = c .before .before .before .before .before .before .before .before .before .before .before .before .before .before .before .before .before .settle .ensures .1 .0
 
 same-length-2 : tie.Need-same-length-2
-same-length-2 c = search needs
+same-length-2 c = c .before .before .before .before .before .before .before .before .before .before .before .before .before .before .before .before .before .before .before .before .before .before .before .before .before .before .before .before .before .before .before .next-round .ensures .1 .1 .0
+
+same-length-3 : tie.Need-same-length-3
+same-length-3 c = c .before .before .before .before .before .before .before .before .before .before .before .before .before .before .before .before .before .settle .ensures .1 .2
+
+same-length-4 : tie.Need-same-length-4
+same-length-4 c = c .before .before .before .before .before .before .before .before .before .before .before .before .before .before .before .before .before .settle .ensures .1 .3
+
+same-length-5 : tie.Need-same-length-5
+same-length-5 c = c .before .before .before .before .before .before .before .before .before .before .before .before .before .before .before .before .before .before .before .before .before .before .before .before .before .before .before .before .before .before .before .next-round .ensures .1 .1 .1
+
+same-length-6 : tie.Need-same-length-6
+same-length-6 c = c .before .before .before .before .before .before .before .before .before .before .before .before .before .before .before .before .before .settle .ensures .1 .1 ∙ c .before .before .before .before .before .before .before .before .before .before .before .before .before .before .before .before .before .before .before .before .before .before .before .before .before .before .before .before .before .before .before .next-round .ensures .1 .1 .2
 
 returns : tie.Need-returns
 returns c =
-    let e = c .before .before .copy-changed in
-    let p = c .before .before .before .before .before in
-    let m = p .before .before .before .before .before .next-round in
-    let b = p .before .before .before .before .before .before .before .before in
-    let n = b .before .points in
-    let w = b .width in
-    let s = b .before .before .before .before .before .before in
-    let P = planWith (now (s .args .plan)) (s .args .horizon) in
-    round-made P (with-well-formed _ (s .pre .ready .accepted) _ (s .pre .ready .horizon-far)) (now (s .args .first)) (s .pre .ready .long-first) (now (s .args .second)) _ (n .result) (w .result) (n .ensures .0) (w .ensures .0) (m .ensures .0) _ (p .stops .result) (e .result) (m .ensures .1) (p .stops .ensures) (e .ensures .0) (e .ensures .1 .0) (e .ensures .1 .1)
+    let f = c .before .before .before .before .before .before .before .before .before .before .before .before .before .before .before .before .before .before .before .before .before .before .before .before .before .before .before .before .before .before .before .next-round .ensures in
+    let t = c .before .before .before .before .before .before .before .before .before .before .before .before .before .before .before .before .before .settle .ensures in (
+      round-ends (c .before .before .before .before .before .before .before .before .before .before .before .before .before .before .before .before .before .before .before .before .before .before .before .before .before .before .before .before .before .before .before .before .before .before .before .before .before .before .before .before .before .before .before .before .before .before .before .pre) _ _ _ _ (c .before .before .before .before .before .before .before .before .before .before .before .before .before .before .before .before .before .before .before .before .before .before .before .before .before .before .before .before .before .before .before .before .before .before .before .before .before .before .points .ensures .0) (f .0) (f .1 .0) (f .1 .1 .0) _ _ _ _ _ (t .0) (t .1 .3) _ refl (c .before .before .before .before .lined-after .ensures) (c .over-horizon .ensures) (c .before .before .before .before .before .before .stops .ensures) (t .1 .0),
+      (t .1 .2, t .1 .3, f .1 .1 .1, t .1 .1 ∙ f .1 .1 .2),
+    )
 
 pub make-round-spec : {M : Type 1} → statement M
 make-round-spec =
     tie.close
     (tie.spec
     points-requires
-    width-requires
     next-round-requires
+    settle-requires
     stops-requires
-    copy-changed-requires
+    lined-after-requires
+    over-horizon-requires
     same-length
     same-length-2
+    same-length-3
+    same-length-4
+    same-length-5
+    same-length-6
     returns)

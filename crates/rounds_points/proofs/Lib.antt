@@ -1,0 +1,3 @@
+pub mod PointSets
+pub mod Growing
+pub mod Gathering

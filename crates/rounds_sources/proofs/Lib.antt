@@ -1,3 +1,0 @@
-pub mod PointSets
-pub mod SourceLaws
-pub mod Unchanged

@@ -1,2 +1,0 @@
-pub mod PointSets
-pub mod Sources

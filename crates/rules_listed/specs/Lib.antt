@@ -1,0 +1,4 @@
+pub mod Places
+pub mod Notes
+pub mod Listed
+pub mod Rests

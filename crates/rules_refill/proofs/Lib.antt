@@ -1,0 +1,5 @@
+mod Covering
+mod Refilling
+mod EdgeWalk
+mod HorizonIdle
+mod RefillWhole

@@ -1,0 +1,988 @@
+// Filling one point's part, which holds the point's cells, from the cells that the last round raised, row by row. Each function gives the number of notes.
+use plan::edges;
+use plan::links;
+use plan::points;
+use plan::propositions;
+use rules_fill::Propagator;
+use rules_fill::digit_mask;
+use rules_listed::clear_raised;
+use rules_listed::propagate_raised;
+use rules_listed::remove_pairs;
+use rules_rows::edge_row;
+use rules_rows::first_edge;
+use rules_rows::horizon_row;
+use rules_rows::letter_row;
+use rules_rows::link_activation;
+use rules_rows::link_finish;
+use rules_rows::literal_row;
+use rules_rows::lower_bound_row;
+use rules_rows::lower_row;
+use rules_rows::next_edge;
+use rules_rows::observer;
+use rules_rows::upper_bound_row;
+use rules_rows::upper_row;
+ghost use mathlib.Core.Path.{_≡_};
+ghost use Prim.Native.Nat.{_*_, _<_};
+ghost use lib.Dec.{eqb};
+ghost use Rattle.plan.specs.Moments.{before, after, SameLength};
+ghost use Rattle.plan.specs.Layout.{planOf};
+ghost use Rattle.plan.specs.Horizons.{planWith};
+ghost use Rattle.rules.specs.declared.Edge.the-variants as edge;
+ghost use Rattle.rules_fill.specs.Steps as steps;
+ghost use Rattle.rules_fill.specs.Shapes as shapes;
+ghost use Rattle.rules_fill.specs.Parts.{nextPart};
+ghost use Rattle.rules_listed.specs.Notes.{Noted};
+ghost use Rattle.rules_refill.specs.Lent.{RefillLent, PartLent, RowOf, NoneOver};
+
+// Rules 1 to 3 of a row of point x.
+fn propagate_row(
+    plan: &[u8],
+    marks: &[u8; 256],
+    horizon: u64,
+    first: &[u32],
+    lists: &[u16],
+    counts: &[usize],
+    rows: &[u16],
+    part: &mut [u32],
+    notes: &mut [u16],
+    count: usize,
+    width: usize,
+    mask: usize,
+    x: usize,
+    by: Propagator,
+) -> usize
+    requires { ⌜ RefillLent (now plan) (now marks) horizon (now first) (now lists) (now counts) (now rows) width mask x ⌝ }
+    requires { ⌜ Noted width (now first) (x * width) (now part) (now notes) count ⌝ }
+    requires { ⌜ RowOf (planWith (now plan) horizon) (now first) (now lists) (now counts) mask x by ⌝ }
+    ensures { λ _. ⌜ after part ≡ shapes.propagateIn width (before first) mask (by .from) (by .avoid) (by .add) (by .up) (by .down) (before part) ⌝ }
+    ensures { λ r. ⌜ Noted width (before first) (x * width) (after part) (after notes) r ⌝ }
+    ensures { λ _. ⌜ SameLength part × SameLength notes ⌝ }
+{
+    let n = counts[2 * by.from];
+    propagate_raised(
+        marks,
+        first,
+        lists,
+        n,
+        part,
+        notes,
+        count,
+        width,
+        mask,
+        x,
+        by,
+    )
+}
+
+// Rule 1 of plan edge i, which starts at x.
+fn edge_in(
+    plan: &[u8],
+    marks: &[u8; 256],
+    horizon: u64,
+    first: &[u32],
+    lists: &[u16],
+    counts: &[usize],
+    rows: &[u16],
+    part: &mut [u32],
+    notes: &mut [u16],
+    count: usize,
+    width: usize,
+    mask: usize,
+    x: usize,
+    i: usize,
+) -> usize
+    requires { ⌜ RefillLent (now plan) (now marks) horizon (now first) (now lists) (now counts) (now rows) width mask x ⌝ }
+    requires { ⌜ Noted width (now first) (x * width) (now part) (now notes) count ⌝ }
+    requires { ⌜ (i < planOf (now plan) .edges) × (planOf (now plan) .from i ≡ x) ⌝ }
+    ensures { λ _. ⌜ after part ≡ shapes.edgeIn (planWith (before plan) horizon) (before first) (edge.PlanEdge i) (before part) ⌝ }
+    ensures { λ r. ⌜ Noted width (before first) (x * width) (after part) (after notes) r ⌝ }
+    ensures { λ _. ⌜ SameLength part × SameLength notes ⌝ }
+{
+    let by = edge_row(plan, rows, i);
+    propagate_row(
+        plan,
+        marks,
+        horizon,
+        first,
+        lists,
+        counts,
+        rows,
+        part,
+        notes,
+        count,
+        width,
+        mask,
+        x,
+        by,
+    )
+}
+
+// Rule 1 of the plan edges that start at x, from each to the next of them.
+fn fill_edges(
+    plan: &[u8],
+    marks: &[u8; 256],
+    horizon: u64,
+    first: &[u32],
+    lists: &[u16],
+    counts: &[usize],
+    rows: &[u16],
+    part: &mut [u32],
+    notes: &mut [u16],
+    count: usize,
+    width: usize,
+    mask: usize,
+    x: usize,
+) -> usize
+    requires { ⌜ RefillLent (now plan) (now marks) horizon (now first) (now lists) (now counts) (now rows) width mask x ⌝ }
+    requires { ⌜ Noted width (now first) (x * width) (now part) (now notes) count ⌝ }
+    ensures { λ _. ⌜ after part ≡ shapes.fillEdges (planWith (before plan) horizon) (before first) x (before part) ⌝ }
+    ensures { λ r. ⌜ Noted width (before first) (x * width) (after part) (after notes) r ⌝ }
+    ensures { λ _. ⌜ SameLength part × SameLength notes ⌝ }
+{
+    let n = edges(plan);
+    let mut noted = count;
+    let mut i = first_edge(plan, rows, x);
+    while i < n {
+        noted = edge_in(
+            plan,
+            marks,
+            horizon,
+            first,
+            lists,
+            counts,
+            rows,
+            part,
+            notes,
+            noted,
+            width,
+            mask,
+            x,
+            i,
+        );
+        i = next_edge(plan, rows, i);
+    }
+    noted
+}
+
+// Rule 1 of the horizon edge to y, at the first alarm.
+fn horizon_edge_in(
+    plan: &[u8],
+    marks: &[u8; 256],
+    horizon: u64,
+    first: &[u32],
+    lists: &[u16],
+    counts: &[usize],
+    rows: &[u16],
+    part: &mut [u32],
+    notes: &mut [u16],
+    count: usize,
+    width: usize,
+    mask: usize,
+    x: usize,
+    y: usize,
+) -> usize
+    requires { ⌜ RefillLent (now plan) (now marks) horizon (now first) (now lists) (now counts) (now rows) width mask x ⌝ }
+    requires { ⌜ Noted width (now first) (x * width) (now part) (now notes) count ⌝ }
+    requires { ⌜ (x ≡ 0) × (0 < y) × (y < planOf (now plan) .points) ⌝ }
+    ensures { λ _. ⌜ after part ≡ shapes.edgeIn (planWith (before plan) horizon) (before first) (edge.HorizonEdge y) (before part) ⌝ }
+    ensures { λ r. ⌜ Noted width (before first) (x * width) (after part) (after notes) r ⌝ }
+    ensures { λ _. ⌜ SameLength part × SameLength notes ⌝ }
+{
+    let by = horizon_row(plan, horizon, y);
+    propagate_row(
+        plan,
+        marks,
+        horizon,
+        first,
+        lists,
+        counts,
+        rows,
+        part,
+        notes,
+        count,
+        width,
+        mask,
+        x,
+        by,
+    )
+}
+
+fn fill_horizon(
+    plan: &[u8],
+    marks: &[u8; 256],
+    horizon: u64,
+    first: &[u32],
+    lists: &[u16],
+    counts: &[usize],
+    rows: &[u16],
+    part: &mut [u32],
+    notes: &mut [u16],
+    count: usize,
+    width: usize,
+    mask: usize,
+    x: usize,
+) -> usize
+    requires { ⌜ RefillLent (now plan) (now marks) horizon (now first) (now lists) (now counts) (now rows) width mask x ⌝ }
+    requires { ⌜ Noted width (now first) (x * width) (now part) (now notes) count ⌝ }
+    requires { ⌜ x ≡ 0 ⌝ }
+    ensures { λ _. ⌜ after part ≡ shapes.fillHorizon (planWith (before plan) horizon) (before first) (before part) ⌝ }
+    ensures { λ r. ⌜ Noted width (before first) (x * width) (after part) (after notes) r ⌝ }
+    ensures { λ _. ⌜ SameLength part × SameLength notes ⌝ }
+{
+    let n = points(plan);
+    let mut noted = count;
+    for y in 1..n {
+        noted = horizon_edge_in(
+            plan,
+            marks,
+            horizon,
+            first,
+            lists,
+            counts,
+            rows,
+            part,
+            notes,
+            noted,
+            width,
+            mask,
+            x,
+            y,
+        );
+    }
+    noted
+}
+
+// Rule 1 of the horizon edges, which start at the first alarm: they give nothing unless a raised cell is over the horizon.
+fn horizon_at(
+    plan: &[u8],
+    marks: &[u8; 256],
+    horizon: u64,
+    first: &[u32],
+    lists: &[u16],
+    counts: &[usize],
+    rows: &[u16],
+    part: &mut [u32],
+    notes: &mut [u16],
+    count: usize,
+    width: usize,
+    mask: usize,
+    x: usize,
+    over: bool,
+) -> usize
+    requires { ⌜ RefillLent (now plan) (now marks) horizon (now first) (now lists) (now counts) (now rows) width mask x ⌝ }
+    requires { ⌜ Noted width (now first) (x * width) (now part) (now notes) count ⌝ }
+    requires { ⌜ NoneOver (planWith (now plan) horizon) (now first) (now lists) (now counts) over ⌝ }
+    ensures { λ _. ⌜ after part ≡ steps.when (eqb x 0) (shapes.fillHorizon (planWith (before plan) horizon) (before first)) (before part) ⌝ }
+    ensures { λ r. ⌜ Noted width (before first) (x * width) (after part) (after notes) r ⌝ }
+    ensures { λ _. ⌜ SameLength part × SameLength notes ⌝ }
+{
+    if x != 0 {
+        return count;
+    }
+    if !over {
+        return count;
+    }
+    fill_horizon(
+        plan,
+        marks,
+        horizon,
+        first,
+        lists,
+        counts,
+        rows,
+        part,
+        notes,
+        count,
+        width,
+        mask,
+        x,
+    )
+}
+
+// Rule 2 of link i, whose activation is x.
+fn lower_in(
+    plan: &[u8],
+    marks: &[u8; 256],
+    horizon: u64,
+    first: &[u32],
+    lists: &[u16],
+    counts: &[usize],
+    rows: &[u16],
+    part: &mut [u32],
+    notes: &mut [u16],
+    count: usize,
+    width: usize,
+    mask: usize,
+    x: usize,
+    i: usize,
+) -> usize
+    requires { ⌜ RefillLent (now plan) (now marks) horizon (now first) (now lists) (now counts) (now rows) width mask x ⌝ }
+    requires { ⌜ Noted width (now first) (x * width) (now part) (now notes) count ⌝ }
+    requires { ⌜ (i < planOf (now plan) .links) × (planOf (now plan) .activation i ≡ x) ⌝ }
+    ensures { λ _. ⌜ after part ≡ shapes.lowerIn (planWith (before plan) horizon) (before first) i (before part) ⌝ }
+    ensures { λ r. ⌜ Noted width (before first) (x * width) (after part) (after notes) r ⌝ }
+    ensures { λ _. ⌜ SameLength part × SameLength notes ⌝ }
+{
+    let by = lower_row(plan, rows, i);
+    propagate_row(
+        plan,
+        marks,
+        horizon,
+        first,
+        lists,
+        counts,
+        rows,
+        part,
+        notes,
+        count,
+        width,
+        mask,
+        x,
+        by,
+    )
+}
+
+// Rule 1 of its upper bound.
+fn upper_bound_in(
+    plan: &[u8],
+    marks: &[u8; 256],
+    horizon: u64,
+    first: &[u32],
+    lists: &[u16],
+    counts: &[usize],
+    rows: &[u16],
+    part: &mut [u32],
+    notes: &mut [u16],
+    count: usize,
+    width: usize,
+    mask: usize,
+    x: usize,
+    i: usize,
+) -> usize
+    requires { ⌜ RefillLent (now plan) (now marks) horizon (now first) (now lists) (now counts) (now rows) width mask x ⌝ }
+    requires { ⌜ Noted width (now first) (x * width) (now part) (now notes) count ⌝ }
+    requires { ⌜ (i < planOf (now plan) .links) × (planOf (now plan) .activation i ≡ x) ⌝ }
+    ensures { λ _. ⌜ after part ≡ shapes.edgeIn (planWith (before plan) horizon) (before first) (edge.UpperBound i) (before part) ⌝ }
+    ensures { λ r. ⌜ Noted width (before first) (x * width) (after part) (after notes) r ⌝ }
+    ensures { λ _. ⌜ SameLength part × SameLength notes ⌝ }
+{
+    let by = upper_bound_row(plan, rows, i);
+    propagate_row(
+        plan,
+        marks,
+        horizon,
+        first,
+        lists,
+        counts,
+        rows,
+        part,
+        notes,
+        count,
+        width,
+        mask,
+        x,
+        by,
+    )
+}
+
+// Rule 3 of link i, whose end is x.
+fn upper_in(
+    plan: &[u8],
+    marks: &[u8; 256],
+    horizon: u64,
+    first: &[u32],
+    lists: &[u16],
+    counts: &[usize],
+    rows: &[u16],
+    part: &mut [u32],
+    notes: &mut [u16],
+    count: usize,
+    width: usize,
+    mask: usize,
+    x: usize,
+    i: usize,
+) -> usize
+    requires { ⌜ RefillLent (now plan) (now marks) horizon (now first) (now lists) (now counts) (now rows) width mask x ⌝ }
+    requires { ⌜ Noted width (now first) (x * width) (now part) (now notes) count ⌝ }
+    requires { ⌜ (i < planOf (now plan) .links) × (planOf (now plan) .finish i ≡ x) ⌝ }
+    ensures { λ _. ⌜ after part ≡ shapes.upperIn (planWith (before plan) horizon) (before first) i (before part) ⌝ }
+    ensures { λ r. ⌜ Noted width (before first) (x * width) (after part) (after notes) r ⌝ }
+    ensures { λ _. ⌜ SameLength part × SameLength notes ⌝ }
+{
+    let by = upper_row(plan, rows, i);
+    propagate_row(
+        plan,
+        marks,
+        horizon,
+        first,
+        lists,
+        counts,
+        rows,
+        part,
+        notes,
+        count,
+        width,
+        mask,
+        x,
+        by,
+    )
+}
+
+// Rule 1 of its lower bound.
+fn lower_bound_in(
+    plan: &[u8],
+    marks: &[u8; 256],
+    horizon: u64,
+    first: &[u32],
+    lists: &[u16],
+    counts: &[usize],
+    rows: &[u16],
+    part: &mut [u32],
+    notes: &mut [u16],
+    count: usize,
+    width: usize,
+    mask: usize,
+    x: usize,
+    i: usize,
+) -> usize
+    requires { ⌜ RefillLent (now plan) (now marks) horizon (now first) (now lists) (now counts) (now rows) width mask x ⌝ }
+    requires { ⌜ Noted width (now first) (x * width) (now part) (now notes) count ⌝ }
+    requires { ⌜ (i < planOf (now plan) .links) × (planOf (now plan) .finish i ≡ x) ⌝ }
+    ensures { λ _. ⌜ after part ≡ shapes.edgeIn (planWith (before plan) horizon) (before first) (edge.LowerBound i) (before part) ⌝ }
+    ensures { λ r. ⌜ Noted width (before first) (x * width) (after part) (after notes) r ⌝ }
+    ensures { λ _. ⌜ SameLength part × SameLength notes ⌝ }
+{
+    let by = lower_bound_row(plan, rows, i);
+    propagate_row(
+        plan,
+        marks,
+        horizon,
+        first,
+        lists,
+        counts,
+        rows,
+        part,
+        notes,
+        count,
+        width,
+        mask,
+        x,
+        by,
+    )
+}
+
+// Rule 2 of link i and rule 1 of its upper bound, if its activation is x.
+fn activation_in(
+    plan: &[u8],
+    marks: &[u8; 256],
+    horizon: u64,
+    first: &[u32],
+    lists: &[u16],
+    counts: &[usize],
+    rows: &[u16],
+    part: &mut [u32],
+    notes: &mut [u16],
+    count: usize,
+    width: usize,
+    mask: usize,
+    x: usize,
+    i: usize,
+) -> usize
+    requires { ⌜ RefillLent (now plan) (now marks) horizon (now first) (now lists) (now counts) (now rows) width mask x ⌝ }
+    requires { ⌜ Noted width (now first) (x * width) (now part) (now notes) count ⌝ }
+    requires { ⌜ i < planOf (now plan) .links ⌝ }
+    ensures { λ _. ⌜ after part ≡ shapes.fillActivation (planWith (before plan) horizon) (before first) x i (before part) ⌝ }
+    ensures { λ r. ⌜ Noted width (before first) (x * width) (after part) (after notes) r ⌝ }
+    ensures { λ _. ⌜ SameLength part × SameLength notes ⌝ }
+{
+    if link_activation(plan, rows, i) != x {
+        return count;
+    }
+    let noted = lower_in(
+        plan,
+        marks,
+        horizon,
+        first,
+        lists,
+        counts,
+        rows,
+        part,
+        notes,
+        count,
+        width,
+        mask,
+        x,
+        i,
+    );
+    upper_bound_in(
+        plan,
+        marks,
+        horizon,
+        first,
+        lists,
+        counts,
+        rows,
+        part,
+        notes,
+        noted,
+        width,
+        mask,
+        x,
+        i,
+    )
+}
+
+// Rule 3 of link i and rule 1 of its lower bound, if its end is x.
+fn finish_in(
+    plan: &[u8],
+    marks: &[u8; 256],
+    horizon: u64,
+    first: &[u32],
+    lists: &[u16],
+    counts: &[usize],
+    rows: &[u16],
+    part: &mut [u32],
+    notes: &mut [u16],
+    count: usize,
+    width: usize,
+    mask: usize,
+    x: usize,
+    i: usize,
+) -> usize
+    requires { ⌜ RefillLent (now plan) (now marks) horizon (now first) (now lists) (now counts) (now rows) width mask x ⌝ }
+    requires { ⌜ Noted width (now first) (x * width) (now part) (now notes) count ⌝ }
+    requires { ⌜ i < planOf (now plan) .links ⌝ }
+    ensures { λ _. ⌜ after part ≡ shapes.fillFinish (planWith (before plan) horizon) (before first) x i (before part) ⌝ }
+    ensures { λ r. ⌜ Noted width (before first) (x * width) (after part) (after notes) r ⌝ }
+    ensures { λ _. ⌜ SameLength part × SameLength notes ⌝ }
+{
+    if link_finish(plan, rows, i) != x {
+        return count;
+    }
+    let noted = upper_in(
+        plan,
+        marks,
+        horizon,
+        first,
+        lists,
+        counts,
+        rows,
+        part,
+        notes,
+        count,
+        width,
+        mask,
+        x,
+        i,
+    );
+    lower_bound_in(
+        plan,
+        marks,
+        horizon,
+        first,
+        lists,
+        counts,
+        rows,
+        part,
+        notes,
+        noted,
+        width,
+        mask,
+        x,
+        i,
+    )
+}
+
+// Rule 4 of link i.
+fn letter_in(
+    plan: &[u8],
+    marks: &[u8; 256],
+    horizon: u64,
+    first: &[u32],
+    lists: &[u16],
+    counts: &[usize],
+    rows: &[u16],
+    part: &mut [u32],
+    notes: &mut [u16],
+    count: usize,
+    width: usize,
+    mask: usize,
+    x: usize,
+    i: usize,
+) -> usize
+    requires { ⌜ RefillLent (now plan) (now marks) horizon (now first) (now lists) (now counts) (now rows) width mask x ⌝ }
+    requires { ⌜ Noted width (now first) (x * width) (now part) (now notes) count ⌝ }
+    requires { ⌜ i < planOf (now plan) .links ⌝ }
+    ensures { λ _. ⌜ after part ≡ shapes.letterIn (planWith (before plan) horizon) (before first) x i (before part) ⌝ }
+    ensures { λ r. ⌜ Noted width (before first) (x * width) (after part) (after notes) r ⌝ }
+    ensures { λ _. ⌜ SameLength part × SameLength notes ⌝ }
+{
+    let by = letter_row(plan, rows, i);
+    remove_pairs(first, lists, counts, part, notes, count, width, x, by)
+}
+
+// Rules 2 to 4 of link i, and rule 1 of its two edges.
+fn fill_link(
+    plan: &[u8],
+    marks: &[u8; 256],
+    horizon: u64,
+    first: &[u32],
+    lists: &[u16],
+    counts: &[usize],
+    rows: &[u16],
+    part: &mut [u32],
+    notes: &mut [u16],
+    count: usize,
+    width: usize,
+    mask: usize,
+    x: usize,
+    i: usize,
+) -> usize
+    requires { ⌜ RefillLent (now plan) (now marks) horizon (now first) (now lists) (now counts) (now rows) width mask x ⌝ }
+    requires { ⌜ Noted width (now first) (x * width) (now part) (now notes) count ⌝ }
+    requires { ⌜ i < planOf (now plan) .links ⌝ }
+    ensures { λ _. ⌜ after part ≡ shapes.fillLink (planWith (before plan) horizon) (before first) x i (before part) ⌝ }
+    ensures { λ r. ⌜ Noted width (before first) (x * width) (after part) (after notes) r ⌝ }
+    ensures { λ _. ⌜ SameLength part × SameLength notes ⌝ }
+{
+    let activated = activation_in(
+        plan,
+        marks,
+        horizon,
+        first,
+        lists,
+        counts,
+        rows,
+        part,
+        notes,
+        count,
+        width,
+        mask,
+        x,
+        i,
+    );
+    let finished = finish_in(
+        plan,
+        marks,
+        horizon,
+        first,
+        lists,
+        counts,
+        rows,
+        part,
+        notes,
+        activated,
+        width,
+        mask,
+        x,
+        i,
+    );
+    letter_in(
+        plan,
+        marks,
+        horizon,
+        first,
+        lists,
+        counts,
+        rows,
+        part,
+        notes,
+        finished,
+        width,
+        mask,
+        x,
+        i,
+    )
+}
+
+fn fill_links(
+    plan: &[u8],
+    marks: &[u8; 256],
+    horizon: u64,
+    first: &[u32],
+    lists: &[u16],
+    counts: &[usize],
+    rows: &[u16],
+    part: &mut [u32],
+    notes: &mut [u16],
+    count: usize,
+    width: usize,
+    mask: usize,
+    x: usize,
+) -> usize
+    requires { ⌜ RefillLent (now plan) (now marks) horizon (now first) (now lists) (now counts) (now rows) width mask x ⌝ }
+    requires { ⌜ Noted width (now first) (x * width) (now part) (now notes) count ⌝ }
+    ensures { λ _. ⌜ after part ≡ shapes.fillLinks (planWith (before plan) horizon) (before first) x (before part) ⌝ }
+    ensures { λ r. ⌜ Noted width (before first) (x * width) (after part) (after notes) r ⌝ }
+    ensures { λ _. ⌜ SameLength part × SameLength notes ⌝ }
+{
+    let n = links(plan);
+    let mut noted = count;
+    for i in 0..n {
+        noted = fill_link(
+            plan,
+            marks,
+            horizon,
+            first,
+            lists,
+            counts,
+            rows,
+            part,
+            notes,
+            noted,
+            width,
+            mask,
+            x,
+            i,
+        );
+    }
+    noted
+}
+
+// Rule 5 of proposition j, if its observing point is x.
+fn own_literal_in(
+    plan: &[u8],
+    marks: &[u8; 256],
+    horizon: u64,
+    first: &[u32],
+    lists: &[u16],
+    counts: &[usize],
+    rows: &[u16],
+    part: &mut [u32],
+    notes: &mut [u16],
+    count: usize,
+    width: usize,
+    mask: usize,
+    x: usize,
+    j: usize,
+) -> usize
+    requires { ⌜ RefillLent (now plan) (now marks) horizon (now first) (now lists) (now counts) (now rows) width mask x ⌝ }
+    requires { ⌜ Noted width (now first) (x * width) (now part) (now notes) count ⌝ }
+    requires { ⌜ j < planOf (now plan) .propositions ⌝ }
+    ensures { λ _. ⌜ after part ≡ shapes.fillOwnLiteral (planWith (before plan) horizon) (before first) x j (before part) ⌝ }
+    ensures { λ r. ⌜ Noted width (before first) (x * width) (after part) (after notes) r ⌝ }
+    ensures { λ _. ⌜ SameLength part × SameLength notes ⌝ }
+{
+    if observer(plan, rows, j) != x {
+        return count;
+    }
+    let n = counts[2 * x];
+    clear_raised(first, lists, n, part, notes, count, width, x, digit_mask(j))
+}
+
+// Rule 6 of proposition j.
+fn literal_in(
+    plan: &[u8],
+    marks: &[u8; 256],
+    horizon: u64,
+    first: &[u32],
+    lists: &[u16],
+    counts: &[usize],
+    rows: &[u16],
+    part: &mut [u32],
+    notes: &mut [u16],
+    count: usize,
+    width: usize,
+    mask: usize,
+    x: usize,
+    j: usize,
+) -> usize
+    requires { ⌜ RefillLent (now plan) (now marks) horizon (now first) (now lists) (now counts) (now rows) width mask x ⌝ }
+    requires { ⌜ Noted width (now first) (x * width) (now part) (now notes) count ⌝ }
+    requires { ⌜ j < planOf (now plan) .propositions ⌝ }
+    ensures { λ _. ⌜ after part ≡ shapes.literalIn (planWith (before plan) horizon) (before first) x j (before part) ⌝ }
+    ensures { λ r. ⌜ Noted width (before first) (x * width) (after part) (after notes) r ⌝ }
+    ensures { λ _. ⌜ SameLength part × SameLength notes ⌝ }
+{
+    let by = literal_row(plan, rows, j);
+    remove_pairs(first, lists, counts, part, notes, count, width, x, by)
+}
+
+// Rules 5 and 6 of proposition j.
+fn fill_proposition(
+    plan: &[u8],
+    marks: &[u8; 256],
+    horizon: u64,
+    first: &[u32],
+    lists: &[u16],
+    counts: &[usize],
+    rows: &[u16],
+    part: &mut [u32],
+    notes: &mut [u16],
+    count: usize,
+    width: usize,
+    mask: usize,
+    x: usize,
+    j: usize,
+) -> usize
+    requires { ⌜ RefillLent (now plan) (now marks) horizon (now first) (now lists) (now counts) (now rows) width mask x ⌝ }
+    requires { ⌜ Noted width (now first) (x * width) (now part) (now notes) count ⌝ }
+    requires { ⌜ j < planOf (now plan) .propositions ⌝ }
+    ensures { λ _. ⌜ after part ≡ shapes.fillProposition (planWith (before plan) horizon) (before first) x j (before part) ⌝ }
+    ensures { λ r. ⌜ Noted width (before first) (x * width) (after part) (after notes) r ⌝ }
+    ensures { λ _. ⌜ SameLength part × SameLength notes ⌝ }
+{
+    let noted = own_literal_in(
+        plan,
+        marks,
+        horizon,
+        first,
+        lists,
+        counts,
+        rows,
+        part,
+        notes,
+        count,
+        width,
+        mask,
+        x,
+        j,
+    );
+    literal_in(
+        plan,
+        marks,
+        horizon,
+        first,
+        lists,
+        counts,
+        rows,
+        part,
+        notes,
+        noted,
+        width,
+        mask,
+        x,
+        j,
+    )
+}
+
+fn fill_propositions(
+    plan: &[u8],
+    marks: &[u8; 256],
+    horizon: u64,
+    first: &[u32],
+    lists: &[u16],
+    counts: &[usize],
+    rows: &[u16],
+    part: &mut [u32],
+    notes: &mut [u16],
+    count: usize,
+    width: usize,
+    mask: usize,
+    x: usize,
+) -> usize
+    requires { ⌜ RefillLent (now plan) (now marks) horizon (now first) (now lists) (now counts) (now rows) width mask x ⌝ }
+    requires { ⌜ Noted width (now first) (x * width) (now part) (now notes) count ⌝ }
+    ensures { λ _. ⌜ after part ≡ shapes.fillPropositions (planWith (before plan) horizon) (before first) x (before part) ⌝ }
+    ensures { λ r. ⌜ Noted width (before first) (x * width) (after part) (after notes) r ⌝ }
+    ensures { λ _. ⌜ SameLength part × SameLength notes ⌝ }
+{
+    let n = propositions(plan);
+    let mut noted = count;
+    for j in 0..n {
+        noted = fill_proposition(
+            plan,
+            marks,
+            horizon,
+            first,
+            lists,
+            counts,
+            rows,
+            part,
+            notes,
+            noted,
+            width,
+            mask,
+            x,
+            j,
+        );
+    }
+    noted
+}
+
+// The part of the next table that belongs to point x, from the raised cells; it has the point's cells before. What lies past it is untouched.
+// Gives the number of its cells that are above the table's; their places are noted.
+pub fn refill_point(
+    plan: &[u8],
+    marks: &[u8; 256],
+    horizon: u64,
+    first: &[u32],
+    lists: &[u16],
+    counts: &[usize],
+    rows: &[u16],
+    part: &mut [u32],
+    notes: &mut [u16],
+    width: usize,
+    mask: usize,
+    x: usize,
+    over: bool,
+) -> usize
+    requires { ⌜ RefillLent (now plan) (now marks) horizon (now first) (now lists) (now counts) (now rows) width mask x ⌝ }
+    requires { ⌜ PartLent width (now first) (now part) (now notes) x ⌝ }
+    requires { ⌜ NoneOver (planWith (now plan) horizon) (now first) (now lists) (now counts) over ⌝ }
+    ensures { λ _. ⌜ after part ≡ nextPart (planWith (before plan) horizon) x (before first) (before part) ⌝ }
+    ensures { λ r. ⌜ Noted width (before first) (x * width) (after part) (after notes) r ⌝ }
+    ensures { λ _. ⌜ SameLength part × SameLength notes ⌝ }
+{
+    let edged = fill_edges(
+        plan,
+        marks,
+        horizon,
+        first,
+        lists,
+        counts,
+        rows,
+        part,
+        notes,
+        0,
+        width,
+        mask,
+        x,
+    );
+    let far = horizon_at(
+        plan,
+        marks,
+        horizon,
+        first,
+        lists,
+        counts,
+        rows,
+        part,
+        notes,
+        edged,
+        width,
+        mask,
+        x,
+        over,
+    );
+    let linked = fill_links(
+        plan,
+        marks,
+        horizon,
+        first,
+        lists,
+        counts,
+        rows,
+        part,
+        notes,
+        far,
+        width,
+        mask,
+        x,
+    );
+    fill_propositions(
+        plan,
+        marks,
+        horizon,
+        first,
+        lists,
+        counts,
+        rows,
+        part,
+        notes,
+        linked,
+        width,
+        mask,
+        x,
+    )
+}
