@@ -1,9 +1,9 @@
 // A port of the Rattle code that `rounds::check` runs, line by line, to safe Rust with its ordinary bounds checks: the same
 // functions with the same names, the same loops in the same order, a module for each crate and each file. It is for the benchmark
 // alone, which compares compiled Rattle with Rust; nothing here is proved.
-// The contracts are left out, and so are the functions that the check does not reach. Three things are added because Rust asks for
-// them: the rows of rules are `Copy`, a parameter that only a contract names has an underscore, and a field that nothing here reads
-// is marked.
+// The contracts are left out, and so are the functions that the check does not reach. Two things are added because Rust asks for
+// them: the rows of rules and the places without a row's bits are `Copy`, and a parameter that only a contract names has an
+// underscore.
 
 use self::rounds::Answer;
 
@@ -21,13 +21,19 @@ pub fn check(plan: &[u8], first: &mut [u32], second: &mut [u32], limit: u64) -> 
 mod plan {
     pub use self::bounds::horizon;
     pub use self::fields::cells;
+    pub use self::fields::edge_data_at;
     pub use self::fields::edge_down;
+    pub use self::fields::edge_down_at;
     pub use self::fields::edge_from;
+    pub use self::fields::edge_from_at;
     pub use self::fields::edge_label;
-    pub use self::fields::edge_spare;
+    pub use self::fields::edge_label_at;
+    pub use self::fields::edge_spare_at;
     pub use self::fields::edge_to;
-    pub use self::fields::edge_up;
+    pub use self::fields::edge_to_at;
+    pub use self::fields::edge_up_at;
     pub use self::fields::edges;
+    pub use self::fields::edges_at;
     pub use self::fields::label_bytes;
     pub use self::fields::labels;
     pub use self::fields::length_for;
@@ -54,7 +60,8 @@ mod plan {
 
     // M and the horizon.
     mod bounds {
-        use super::fields::edge_down;
+        use super::fields::edge_data_at;
+        use super::fields::edge_down_at;
         use super::fields::edges;
         use super::fields::link_most;
         use super::fields::links;
@@ -73,8 +80,9 @@ mod plan {
         fn greatest_down(plan: &[u8]) -> u64 {
             let mut most = 0;
             let n = edges(plan);
+            let bytes = edge_data_at(plan);
             for i in 0..n {
-                most = greater(most, edge_down(plan, i));
+                most = greater(most, edge_down_at(plan, bytes, i));
             }
             most
         }
@@ -207,17 +215,28 @@ mod plan {
             word_at(plan, data_at(plan, i) + 2)
         }
 
-        pub fn edge_from(plan: &[u8], i: usize) -> usize {
-            byte_at(plan, ends_at(plan, edge_row(plan, i)))
+        // Where the ends of edge 0 stand.
+        pub fn edges_at(plan: &[u8]) -> usize {
+            ends_at(plan, edge_row(plan, 0))
         }
 
-        pub fn edge_to(plan: &[u8], i: usize) -> usize {
-            byte_at(plan, ends_at(plan, edge_row(plan, i)) + 1)
+        // Where the four bytes of edge 0 stand.
+        pub fn edge_data_at(plan: &[u8]) -> usize {
+            data_at(plan, edge_row(plan, 0))
+        }
+
+        // The fields of an edge for loops over edges, which find once where edge 0 stands.
+        pub fn edge_from_at(plan: &[u8], ends: usize, i: usize) -> usize {
+            byte_at(plan, ends + 2 * i)
+        }
+
+        pub fn edge_to_at(plan: &[u8], ends: usize, i: usize) -> usize {
+            byte_at(plan, ends + 2 * i + 1)
         }
 
         // The weight where it is not negative, else 0.
-        pub fn edge_up(plan: &[u8], i: usize) -> u64 {
-            let weight = word_at(plan, data_at(plan, edge_row(plan, i)));
+        pub fn edge_up_at(plan: &[u8], bytes: usize, i: usize) -> u64 {
+            let weight = word_at(plan, bytes + 4 * i);
             if weight < 32768 {
                 return weight;
             }
@@ -225,26 +244,38 @@ mod plan {
         }
 
         // The weight's negative where it is negative, else 0.
-        pub fn edge_down(plan: &[u8], i: usize) -> u64 {
-            let weight = word_at(plan, data_at(plan, edge_row(plan, i)));
+        pub fn edge_down_at(plan: &[u8], bytes: usize, i: usize) -> u64 {
+            let weight = word_at(plan, bytes + 4 * i);
             if weight < 32768 {
                 return 0;
             }
             65536 - weight
         }
 
-        // One of the four bytes of an edge.
-        fn edge_byte(plan: &[u8], i: usize, k: usize) -> usize {
-            byte_at(plan, data_at(plan, edge_row(plan, i)) + k)
-        }
-
-        pub fn edge_label(plan: &[u8], i: usize) -> usize {
-            edge_byte(plan, i, 2)
+        pub fn edge_label_at(plan: &[u8], bytes: usize, i: usize) -> usize {
+            byte_at(plan, bytes + 4 * i + 2)
         }
 
         // The spare byte of an edge.
-        pub fn edge_spare(plan: &[u8], i: usize) -> usize {
-            edge_byte(plan, i, 3)
+        pub fn edge_spare_at(plan: &[u8], bytes: usize, i: usize) -> usize {
+            byte_at(plan, bytes + 4 * i + 3)
+        }
+
+        // The fields of an edge that is asked for alone.
+        pub fn edge_from(plan: &[u8], i: usize) -> usize {
+            edge_from_at(plan, edges_at(plan), i)
+        }
+
+        pub fn edge_to(plan: &[u8], i: usize) -> usize {
+            edge_to_at(plan, edges_at(plan), i)
+        }
+
+        pub fn edge_down(plan: &[u8], i: usize) -> u64 {
+            edge_down_at(plan, edge_data_at(plan), i)
+        }
+
+        pub fn edge_label(plan: &[u8], i: usize) -> usize {
+            edge_label_at(plan, edge_data_at(plan), i)
         }
     }
 
@@ -535,13 +566,15 @@ mod plan_refusal {
     // Refusals 1 to 5, 17 and 18, in their order.
     mod refusals {
         use super::super::plan::cells;
-        use super::super::plan::edge_down;
-        use super::super::plan::edge_from;
-        use super::super::plan::edge_label;
-        use super::super::plan::edge_spare;
-        use super::super::plan::edge_to;
-        use super::super::plan::edge_up;
+        use super::super::plan::edge_data_at;
+        use super::super::plan::edge_down_at;
+        use super::super::plan::edge_from_at;
+        use super::super::plan::edge_label_at;
+        use super::super::plan::edge_spare_at;
+        use super::super::plan::edge_to_at;
+        use super::super::plan::edge_up_at;
         use super::super::plan::edges;
+        use super::super::plan::edges_at;
         use super::super::plan::length_for;
         use super::super::plan::link_activation;
         use super::super::plan::link_finish;
@@ -728,28 +761,30 @@ mod plan_refusal {
         fn edges_fit(plan: &[u8]) -> bool {
             let marks = plain_marks();
             let n = edges(plan);
+            let ends = edges_at(plan);
+            let bytes = edge_data_at(plan);
             for i in 0..n {
-                if !edge_fits(plan, &marks, i) {
+                if !edge_fits(plan, &marks, ends, bytes, i) {
                     return false;
                 }
             }
             true
         }
 
-        fn edge_fits(plan: &[u8], marks: &[u8; 256], i: usize) -> bool {
-            if !edge_ends_fit(plan, i) {
+        fn edge_fits(plan: &[u8], marks: &[u8; 256], ends: usize, bytes: usize, i: usize) -> bool {
+            if !edge_ends_fit(plan, ends, bytes, i) {
                 return false;
             }
-            if !label_fits(plan, marks, edge_label(plan, i)) {
+            if !label_fits(plan, marks, edge_label_at(plan, bytes, i)) {
                 return false;
             }
-            edge_spare(plan, i) == 0
+            edge_spare_at(plan, bytes, i) == 0
         }
 
-        fn edge_ends_fit(plan: &[u8], i: usize) -> bool {
+        fn edge_ends_fit(plan: &[u8], ends: usize, bytes: usize, i: usize) -> bool {
             let n = points(plan);
-            let x = edge_from(plan, i);
-            let y = edge_to(plan, i);
+            let x = edge_from_at(plan, ends, i);
+            let y = edge_to_at(plan, ends, i);
             if n <= x {
                 return false;
             }
@@ -759,10 +794,10 @@ mod plan_refusal {
             if x == y {
                 return false;
             }
-            if MOST_SECONDS < edge_up(plan, i) {
+            if MOST_SECONDS < edge_up_at(plan, bytes, i) {
                 return false;
             }
-            edge_down(plan, i) <= MOST_SECONDS
+            edge_down_at(plan, bytes, i) <= MOST_SECONDS
         }
     }
 }
@@ -827,7 +862,6 @@ mod rules_fill {
         pub struct Remover {
             pub other: usize,
             pub mask: usize,
-            #[allow(dead_code)] // only loops over all cells go by it
             pub low: usize,
             pub add: u64,
         }
@@ -909,12 +943,14 @@ mod rules_rows {
 
     // The rows of a plan, read from its bytes into a lent list.
     mod reading {
-        use super::super::plan::edge_down;
-        use super::super::plan::edge_from;
-        use super::super::plan::edge_label;
-        use super::super::plan::edge_to;
-        use super::super::plan::edge_up;
+        use super::super::plan::edge_data_at;
+        use super::super::plan::edge_down_at;
+        use super::super::plan::edge_from_at;
+        use super::super::plan::edge_label_at;
+        use super::super::plan::edge_to_at;
+        use super::super::plan::edge_up_at;
         use super::super::plan::edges;
+        use super::super::plan::edges_at;
         use super::super::plan::link_activation;
         use super::super::plan::link_finish;
         use super::super::plan::link_least;
@@ -968,17 +1004,17 @@ mod rules_rows {
             }
         }
 
-        fn read_edge(plan: &[u8], rows: &mut [u16], i: usize) {
-            let to = edge_to(plan, i);
-            let label = edge_label(plan, i);
-            let up = edge_up(plan, i) as usize;
-            let down = edge_down(plan, i) as usize;
+        fn read_edge(plan: &[u8], rows: &mut [u16], ends: usize, bytes: usize, i: usize) {
+            let to = edge_to_at(plan, ends, i);
+            let label = edge_label_at(plan, bytes, i);
+            let up = edge_up_at(plan, bytes, i) as usize;
+            let down = edge_down_at(plan, bytes, i) as usize;
             put_four(rows, 52 + 5 * i, to, label, up, down);
         }
 
         // Puts edge i before those of its point that are linked.
-        fn link_edge(plan: &[u8], rows: &mut [u16], i: usize) {
-            let x = edge_from(plan, i);
+        fn link_edge(plan: &[u8], rows: &mut [u16], ends: usize, i: usize) {
+            let x = edge_from_at(plan, ends, i);
             let next = widen_word(rows[x]);
             put(rows, 56 + 5 * i, next);
             put(rows, x, i);
@@ -987,10 +1023,12 @@ mod rules_rows {
         // The edges from the last to the first, so that each is linked before those of its point that follow it.
         fn read_edges(plan: &[u8], rows: &mut [u16]) {
             let mut i = edges(plan);
+            let ends = edges_at(plan);
+            let bytes = edge_data_at(plan);
             while 0 < i {
                 i -= 1;
-                read_edge(plan, rows, i);
-                link_edge(plan, rows, i);
+                read_edge(plan, rows, ends, bytes, i);
+                link_edge(plan, rows, ends, i);
             }
         }
 
@@ -1133,6 +1171,7 @@ mod rules_listed {
     pub use self::listed::clear_raised;
     pub use self::listed::propagate_raised;
     pub use self::listed::remove_pairs;
+    pub use self::notes::raise;
 
     // The loops over listed places, one for each shape of rule. In a list of w entries for each of its rows, row 2y has the places of point y that the
     // last round raised, and row 2y + 1 the places of its lines.
@@ -1400,6 +1439,342 @@ mod rules_listed {
     }
 }
 
+// The greatest of all the waits that pairs give to joined places, made by halves.
+mod rules_halving {
+    pub use self::halves::halve;
+
+    // Of two runs of n waits, n a power of 2, each pair (a, b) gives the lesser of its waits to place a | b of a third run, whose cells it raises.
+    mod halves {
+        fn lower(a: u32, b: u32) -> u32 {
+            if a < b {
+                return a;
+            }
+            b
+        }
+
+        fn upper(a: u32, b: u32) -> u32 {
+            if a < b {
+                return b;
+            }
+            a
+        }
+
+        // The greatest of n waits.
+        fn greatest(cells: &[u32], from: usize, n: usize) -> u32 {
+            let mut most = 0;
+            for i in 0..n {
+                most = upper(most, cells[from + i]);
+            }
+            most
+        }
+
+        // The least of n waits.
+        fn least(cells: &[u32], n: usize) -> u32 {
+            let mut least = 4294967295;
+            for i in 0..n {
+                least = lower(least, cells[i]);
+            }
+            least
+        }
+
+        // Whether no pair gives more than the third run holds.
+        fn nothing_new(f: &[u32], g: &[u32], from: usize, h: &[u32], n: usize) -> bool {
+            lower(greatest(f, 0, n), greatest(g, from, n)) <= least(h, n)
+        }
+
+        // What wait f at place a gives with each of the second run.
+        fn pairs_of(f: u32, g: &[u32], from: usize, h: &mut [u32], a: usize, n: usize) {
+            for b in 0..n {
+                let c = a | b;
+                h[c] = upper(h[c], lower(f, g[from + b]));
+            }
+        }
+
+        // All pairs, one by one.
+        fn pairs(f: &[u32], g: &[u32], from: usize, h: &mut [u32], n: usize) {
+            for a in 0..n {
+                pairs_of(f[a], g, from, h, a, n);
+            }
+        }
+
+        // The greater of each two waits in two runs of n, laid down at `top`.
+        fn join_runs(g: &mut [u32], from: usize, n: usize, top: usize) {
+            for i in 0..n {
+                g[top + i] = upper(g[from + i], g[from + n + i]);
+            }
+        }
+
+        // All pairs by halves: pairs of two lower halves give to the lower half of the third run, all others to its upper half; there the upper half of the first
+        // run meets both halves of the second at once. So it takes three halves in place of four. A run that can raise nothing is passed over.
+        pub fn halve(f: &[u32], g: &mut [u32], from: usize, h: &mut [u32], n: usize, top: usize) {
+            if n <= 4 {
+                pairs(f, g, from, h, n);
+                return;
+            }
+            if nothing_new(f, g, from, h, n) {
+                return;
+            }
+            let z = n / 2;
+            let mid = from + z;
+            halve(&f[..z], g, from, &mut h[..z], z, top);
+            halve(&f[..z], g, mid, &mut h[z..], z, top);
+            join_runs(g, from, z, top);
+            halve(&f[z..], g, top, &mut h[z..], z, top + z);
+        }
+    }
+}
+
+// Rules 4 and 6 of a row: from pairs of which one is raised, or from all cells by halves, where that takes fewer steps.
+mod rules_dense {
+    pub use self::dense::remove_row;
+
+    // Rules 4 and 6 of a row, in the way that takes fewer steps.
+    mod dense {
+        use super::super::rules_fill::Remover;
+        use super::super::rules_halving::halve;
+        use super::super::rules_listed::remove_pairs;
+        use super::gather::gather_others;
+        use super::gather::gather_own;
+        use super::gather::gather_part;
+        use super::gather::spread_part;
+        use super::gather::Free;
+
+        // All pairs of the first n waits of two runs, given to a third.
+        fn give_pairs(own: &[u32], others: &mut [u32], given: &mut [u32], n: usize) {
+            halve(&own[..n], others, 0, &mut given[..n], n, n);
+        }
+
+        // From all cells of both points, with room for their waits and for those of the part.
+        fn remove_in_room(
+            first: &[u32],
+            part: &mut [u32],
+            notes: &mut [u16],
+            count: usize,
+            width: usize,
+            x: usize,
+            by: Remover,
+            free: Free,
+            own: &mut [u32],
+            others: &mut [u32],
+            given: &mut [u32],
+        ) -> usize {
+            gather_own(first, x * width, own, free);
+            gather_others(first, by.other * width, others, free, by.add as u32);
+            gather_part(part, given, free);
+            give_pairs(own, others, given, free.count);
+            spread_part(first, x * width, part, notes, count, width, given, free)
+        }
+
+        // Rooms of two sizes, so that few places pay nothing for many.
+        fn remove_few(
+            first: &[u32],
+            part: &mut [u32],
+            notes: &mut [u16],
+            count: usize,
+            width: usize,
+            x: usize,
+            by: Remover,
+            free: Free,
+        ) -> usize {
+            let mut own = [0u32; 64];
+            let mut others = [0u32; 128];
+            let mut given = [0u32; 64];
+            remove_in_room(first, part, notes, count, width, x, by, free, &mut own, &mut others, &mut given)
+        }
+
+        fn remove_many(
+            first: &[u32],
+            part: &mut [u32],
+            notes: &mut [u16],
+            count: usize,
+            width: usize,
+            x: usize,
+            by: Remover,
+            free: Free,
+        ) -> usize {
+            let mut own = [0u32; 2048];
+            let mut others = [0u32; 4096];
+            let mut given = [0u32; 2048];
+            remove_in_room(first, part, notes, count, width, x, by, free, &mut own, &mut others, &mut given)
+        }
+
+        // From all cells of both points, of which at most 2,048 places have none of the row's bits.
+        fn remove_by_halves(
+            first: &[u32],
+            part: &mut [u32],
+            notes: &mut [u16],
+            count: usize,
+            width: usize,
+            x: usize,
+            by: Remover,
+            free: Free,
+        ) -> usize {
+            if free.count <= 64 {
+                return remove_few(first, part, notes, count, width, x, by, free);
+            }
+            remove_many(first, part, notes, count, width, x, by, free)
+        }
+
+        // The steps of a row by halves, about: for b bits some 3^b; none is taken where there is no room.
+        fn steps_by_halves(n: usize) -> usize {
+            if n <= 16 {
+                return 162;
+            }
+            if n <= 32 {
+                return 486;
+            }
+            if n <= 64 {
+                return 1458;
+            }
+            if n <= 128 {
+                return 4374;
+            }
+            if n <= 256 {
+                return 13122;
+            }
+            if n <= 512 {
+                return 39366;
+            }
+            if n <= 1024 {
+                return 118098;
+            }
+            if n <= 2048 {
+                return 354294;
+            }
+            1000000000
+        }
+
+        // No more than 4,096, so that a product of two fits.
+        fn few(n: usize) -> usize {
+            if n < 4096 {
+                return n;
+            }
+            4096
+        }
+
+        // The pairs of a and b, about.
+        fn few_pairs(a: usize, b: usize) -> usize {
+            few(a) * few(b)
+        }
+
+        // The pairs of which one is raised, about.
+        fn raised_pairs(counts: &[usize], x: usize, other: usize) -> usize {
+            few_pairs(counts[2 * x], counts[2 * other + 1]) + few_pairs(counts[2 * other], counts[2 * x + 1])
+        }
+
+        fn free_places(width: usize, by: Remover) -> Free {
+            let times = by.mask / by.low + 1;
+            Free { count: width / times, low: by.low, times: times }
+        }
+
+        // Rules 4 and 6 of a row of point x; gives the number of notes. Few pairs are tried one by one.
+        pub fn remove_row(
+            first: &[u32],
+            lists: &[u16],
+            counts: &[usize],
+            part: &mut [u32],
+            notes: &mut [u16],
+            count: usize,
+            width: usize,
+            x: usize,
+            by: Remover,
+        ) -> usize {
+            let pairs = raised_pairs(counts, x, by.other);
+            if 2 * width < pairs {
+                let free = free_places(width, by);
+                if steps_by_halves(free.count) < pairs {
+                    return remove_by_halves(first, part, notes, count, width, x, by, free);
+                }
+            }
+            remove_pairs(first, lists, counts, part, notes, count, width, x, by)
+        }
+    }
+
+    // The cells of a point's places without a row's bits, side by side, and back. The z-th of these places is z with the row's bits, all 0, put in.
+    mod gather {
+        use super::super::plan::widen_cell;
+        use super::super::rules_listed::raise;
+
+        // The places without the row's bits: how many there are, the lowest of the row's bits, and by how much a place above these bits lies further up.
+        #[derive(Clone, Copy)]
+        pub struct Free {
+            pub count: usize,
+            pub low: usize,
+            pub times: usize,
+        }
+
+        fn upper(a: u32, b: u32) -> u32 {
+            if a < b {
+                return b;
+            }
+            a
+        }
+
+        // The z-th place without the row's bits.
+        fn free_place(free: Free, z: usize) -> usize {
+            let r = z & (free.low - 1);
+            (z - r) * free.times + r
+        }
+
+        // The waits of point x's places that have the row's bits at value m, where they are greater.
+        fn gather_value(first: &[u32], base: usize, own: &mut [u32], free: Free, m: usize) {
+            let start = base + m * free.low;
+            for z in 0..free.count {
+                own[z] = upper(own[z], first[start + free_place(free, z)]);
+            }
+        }
+
+        // For each place without the row's bits the greatest wait of point x's places that have one of these bits and else are the same; the run is 0 before.
+        pub fn gather_own(first: &[u32], base: usize, own: &mut [u32], free: Free) {
+            for m in 1..free.times {
+                gather_value(first, base, own, free, m);
+            }
+        }
+
+        // A wait with the row's addition, if there is one.
+        fn added(wait: u32, add: u32) -> u32 {
+            if 0 < wait {
+                return wait + add;
+            }
+            0
+        }
+
+        // The waits of the other point, with the row's addition where there is a line, as at place 0.
+        pub fn gather_others(first: &[u32], base: usize, others: &mut [u32], free: Free, add: u32) {
+            for z in 0..free.count {
+                others[z] = added(first[base + free_place(free, z)], add);
+            }
+            others[0] = first[base] + add;
+        }
+
+        // The waits of the part.
+        pub fn gather_part(part: &[u32], given: &mut [u32], free: Free) {
+            for z in 0..free.count {
+                given[z] = part[free_place(free, z)];
+            }
+        }
+
+        // The part raised to the waits given; gives the number of notes.
+        pub fn spread_part(
+            first: &[u32],
+            own: usize,
+            part: &mut [u32],
+            notes: &mut [u16],
+            count: usize,
+            width: usize,
+            given: &[u32],
+            free: Free,
+        ) -> usize {
+            let mut noted = count;
+            for z in 0..free.count {
+                noted =
+                    raise(first, own, part, notes, noted, width, free_place(free, z), widen_cell(given[z]));
+            }
+            noted
+        }
+    }
+}
+
 // One point's part of the next table, from the cells that the last round raised.
 mod rules_refill {
     pub use self::refill::refill_point;
@@ -1410,11 +1785,12 @@ mod rules_refill {
         use super::super::plan::links;
         use super::super::plan::points;
         use super::super::plan::propositions;
+        use super::super::rules_dense::remove_row;
         use super::super::rules_fill::digit_mask;
         use super::super::rules_fill::Propagator;
+        use super::super::rules_fill::Remover;
         use super::super::rules_listed::clear_raised;
         use super::super::rules_listed::propagate_raised;
-        use super::super::rules_listed::remove_pairs;
         use super::super::rules_rows::edge_row;
         use super::super::rules_rows::first_edge;
         use super::super::rules_rows::horizon_row;
@@ -1723,29 +2099,8 @@ mod rules_refill {
             )
         }
 
-        // Rule 4 of link i.
-        fn letter_in(
-            plan: &[u8],
-            _marks: &[u8; 256],
-            _horizon: u64,
-            first: &[u32],
-            lists: &[u16],
-            counts: &[usize],
-            rows: &[u16],
-            part: &mut [u32],
-            notes: &mut [u16],
-            count: usize,
-            width: usize,
-            _mask: usize,
-            x: usize,
-            i: usize,
-        ) -> usize {
-            let by = letter_row(plan, rows, i);
-            remove_pairs(first, lists, counts, part, notes, count, width, x, by)
-        }
-
-        // Rules 2 to 4 of link i, and rule 1 of its two edges.
-        fn fill_link(
+        // Rules 2 and 3 of link i, and rule 1 of its two edges.
+        fn link_in(
             plan: &[u8],
             marks: &[u8; 256],
             horizon: u64,
@@ -1764,37 +2119,9 @@ mod rules_refill {
             let activated = activation_in(
                 plan, marks, horizon, first, lists, counts, rows, part, notes, count, width, mask, x, i,
             );
-            let finished = finish_in(
+            finish_in(
                 plan, marks, horizon, first, lists, counts, rows, part, notes, activated, width, mask, x, i,
-            );
-            letter_in(
-                plan, marks, horizon, first, lists, counts, rows, part, notes, finished, width, mask, x, i,
             )
-        }
-
-        fn fill_links(
-            plan: &[u8],
-            marks: &[u8; 256],
-            horizon: u64,
-            first: &[u32],
-            lists: &[u16],
-            counts: &[usize],
-            rows: &[u16],
-            part: &mut [u32],
-            notes: &mut [u16],
-            count: usize,
-            width: usize,
-            mask: usize,
-            x: usize,
-        ) -> usize {
-            let n = links(plan);
-            let mut noted = count;
-            for i in 0..n {
-                noted = fill_link(
-                    plan, marks, horizon, first, lists, counts, rows, part, notes, noted, width, mask, x, i,
-                );
-            }
-            noted
         }
 
         // Rule 5 of proposition j, if its observing point is x.
@@ -1821,8 +2148,58 @@ mod rules_refill {
             clear_raised(first, lists, n, part, notes, count, width, x, digit_mask(j))
         }
 
-        // Rule 6 of proposition j.
-        fn literal_in(
+        // The rules of one parent of a link r, or of a proposition r less the links: numbered so, both have one row of rule 4 or 6.
+        fn single_in(
+            plan: &[u8],
+            marks: &[u8; 256],
+            horizon: u64,
+            first: &[u32],
+            lists: &[u16],
+            counts: &[usize],
+            rows: &[u16],
+            part: &mut [u32],
+            notes: &mut [u16],
+            count: usize,
+            width: usize,
+            mask: usize,
+            x: usize,
+            r: usize,
+        ) -> usize {
+            let k = links(plan);
+            if r < k {
+                return link_in(
+                    plan, marks, horizon, first, lists, counts, rows, part, notes, count, width, mask, x, r,
+                );
+            }
+            own_literal_in(
+                plan,
+                marks,
+                horizon,
+                first,
+                lists,
+                counts,
+                rows,
+                part,
+                notes,
+                count,
+                width,
+                mask,
+                x,
+                r - k,
+            )
+        }
+
+        // The row of rule 4 of link r, or of rule 6 of proposition r less the links.
+        fn removal_row(plan: &[u8], rows: &[u16], r: usize) -> Remover {
+            let k = links(plan);
+            if r < k {
+                return letter_row(plan, rows, r);
+            }
+            literal_row(plan, rows, r - k)
+        }
+
+        // Removal r at point x. Where its starting line is its only line, none has a bit to remove.
+        fn removal_in(
             plan: &[u8],
             _marks: &[u8; 256],
             _horizon: u64,
@@ -1836,38 +2213,17 @@ mod rules_refill {
             width: usize,
             _mask: usize,
             x: usize,
-            j: usize,
+            r: usize,
         ) -> usize {
-            let by = literal_row(plan, rows, j);
-            remove_pairs(first, lists, counts, part, notes, count, width, x, by)
+            if counts[2 * x + 1] < 2 {
+                return count;
+            }
+            let by = removal_row(plan, rows, r);
+            remove_row(first, lists, counts, part, notes, count, width, x, by)
         }
 
-        // Rules 5 and 6 of proposition j.
-        fn fill_proposition(
-            plan: &[u8],
-            marks: &[u8; 256],
-            horizon: u64,
-            first: &[u32],
-            lists: &[u16],
-            counts: &[usize],
-            rows: &[u16],
-            part: &mut [u32],
-            notes: &mut [u16],
-            count: usize,
-            width: usize,
-            mask: usize,
-            x: usize,
-            j: usize,
-        ) -> usize {
-            let noted = own_literal_in(
-                plan, marks, horizon, first, lists, counts, rows, part, notes, count, width, mask, x, j,
-            );
-            literal_in(
-                plan, marks, horizon, first, lists, counts, rows, part, notes, noted, width, mask, x, j,
-            )
-        }
-
-        fn fill_propositions(
+        // Rules 2 to 6 of the links, then of the propositions.
+        fn fill_removals(
             plan: &[u8],
             marks: &[u8; 256],
             horizon: u64,
@@ -1882,11 +2238,14 @@ mod rules_refill {
             mask: usize,
             x: usize,
         ) -> usize {
-            let n = propositions(plan);
+            let n = links(plan) + propositions(plan);
             let mut noted = count;
-            for j in 0..n {
-                noted = fill_proposition(
-                    plan, marks, horizon, first, lists, counts, rows, part, notes, noted, width, mask, x, j,
+            for r in 0..n {
+                let single = single_in(
+                    plan, marks, horizon, first, lists, counts, rows, part, notes, noted, width, mask, x, r,
+                );
+                noted = removal_in(
+                    plan, marks, horizon, first, lists, counts, rows, part, notes, single, width, mask, x, r,
                 );
             }
             noted
@@ -1914,12 +2273,7 @@ mod rules_refill {
             let far = horizon_at(
                 plan, marks, horizon, first, lists, counts, rows, part, notes, edged, width, mask, x, over,
             );
-            let linked = fill_links(
-                plan, marks, horizon, first, lists, counts, rows, part, notes, far, width, mask, x,
-            );
-            fill_propositions(
-                plan, marks, horizon, first, lists, counts, rows, part, notes, linked, width, mask, x,
-            )
+            fill_removals(plan, marks, horizon, first, lists, counts, rows, part, notes, far, width, mask, x)
         }
     }
 }
@@ -1930,14 +2284,16 @@ mod rounds_points {
     pub use self::concern::find_dependents;
     pub use self::concern::find_givers;
     pub use self::sets::bit;
+    pub use self::sets::has;
     pub use self::sets::lowest;
     pub use self::sets::without;
 
     // Which points a round concerns: those of which a rule may give a line from a cell that the last round raised.
     mod concern {
-        use super::super::plan::edge_from;
-        use super::super::plan::edge_to;
+        use super::super::plan::edge_from_at;
+        use super::super::plan::edge_to_at;
         use super::super::plan::edges;
+        use super::super::plan::edges_at;
         use super::super::plan::link_activation;
         use super::super::plan::link_finish;
         use super::super::plan::links;
@@ -1954,8 +2310,9 @@ mod rounds_points {
 
         fn depend_by_edges(plan: &[u8], sets: &mut [usize]) {
             let n = edges(plan);
+            let ends = edges_at(plan);
             for i in 0..n {
-                add(sets, edge_to(plan, i), edge_from(plan, i));
+                add(sets, edge_to_at(plan, ends, i), edge_from_at(plan, ends, i));
             }
         }
 
@@ -2030,6 +2387,10 @@ mod rounds_points {
             1 << x
         }
 
+        pub fn has(set: usize, x: usize) -> bool {
+            set >> x & 1 == 1
+        }
+
         // The lowest point of a set that has one.
         pub fn lowest(set: usize) -> usize {
             usize::trailing_zeros(set) as usize
@@ -2054,12 +2415,23 @@ mod rounds_tables {
 
     // The first cells of lent tables: whether they agree, whether one is above 0, and zeros.
     mod cells {
-        // Whether the first cells of two tables agree, point by point up to the first cell that differs.
-        pub fn same_cells(first: &[u32], second: &[u32], points: usize, width: usize) -> bool {
+        use super::super::rounds_points::has;
+
+        // How many cells of point x are to be compared: none where it is outside the set.
+        fn to_compare(set: usize, x: usize, width: usize) -> usize {
+            if has(set, x) {
+                return width;
+            }
+            0
+        }
+
+        // Whether the first cells of two tables agree, point by point up to the first cell that differs. Outside the set of points they do.
+        pub fn same_cells(first: &[u32], second: &[u32], points: usize, width: usize, set: usize) -> bool {
             let mut agree = true;
             'walk: for x in 0..points {
                 let start = x * width;
-                for t in 0..width {
+                let end = to_compare(set, x, width);
+                for t in 0..end {
                     if first[start + t] != second[start + t] {
                         agree = false;
                         break 'walk;
@@ -2312,11 +2684,11 @@ mod rounds_tables {
     }
 }
 
-// Rounds and the check.
-mod rounds {
-    pub use self::running::check;
+// The making of rounds, and what they end with.
+mod rounds_making {
+    pub use self::making::rounds_to;
 
-    // What the check answers; specs/Outcomes says what each stands for.
+    // What rounds and the check answer; specs/Outcomes says what each stands for.
     pub enum Answer {
         Kept(u64),
         Broken(u64),
@@ -2324,18 +2696,14 @@ mod rounds {
         Refused(u32),
     }
 
-    // Rounds up to a limit, and the check.
-    mod running {
+    // One round of both tables, and rounds up to a limit.
+    mod making {
         use super::super::plan::cells;
-        use super::super::plan::horizon as horizon_of;
-        use super::super::plan::plain_marks;
         use super::super::plan::points;
         use super::super::plan::width as point_width;
-        use super::super::plan_refusal::refusal;
         use super::super::rounds_points::concerned;
         use super::super::rounds_points::find_dependents;
         use super::super::rounds_points::find_givers;
-        use super::super::rounds_tables::clear_cells;
         use super::super::rounds_tables::first_alarm_waits;
         use super::super::rounds_tables::lined_after;
         use super::super::rounds_tables::list_lines;
@@ -2347,7 +2715,7 @@ mod rounds {
         use super::super::rules_rows::read_rows;
         use super::Answer;
 
-        // Whether a round that changed these points stops the rounds: the first alarm waits, or both tables agree. They are compared where no point changed.
+        // Whether a round that changed these points stops the rounds: the first alarm waits, or both tables agree. They are compared where no point changed, at the points that it filled.
         fn stops(
             first: &[u32],
             second: &[u32],
@@ -2355,6 +2723,7 @@ mod rounds {
             width: usize,
             waits: bool,
             changed: usize,
+            filled: usize,
         ) -> bool {
             if waits {
                 return true;
@@ -2365,7 +2734,7 @@ mod rounds {
             if changed != 0 {
                 return false;
             }
-            same_cells(first, second, points, width)
+            same_cells(first, second, points, width, filled)
         }
 
         // The points to fill in a round: those that it concerns, and the first alarm where a raised cell is over the horizon.
@@ -2416,7 +2785,7 @@ mod rounds {
             );
             let changed = settle(second, first, notes, noted, lists, counts, n, width, set | last.changed);
             Round {
-                stops: stops(first, second, n, width, last.stops, changed),
+                stops: stops(first, second, n, width, last.stops, changed, set),
                 changed: changed,
                 lined: lined_after(counts, n, changed, last.lined),
                 over: over_horizon(second, lists, counts, n, width, changed, horizon),
@@ -2605,7 +2974,8 @@ mod rounds {
             )
         }
 
-        fn rounds_to(
+        // Rounds from two tables with the same cells, up to the limit; zeros says that all their cells are 0.
+        pub fn rounds_to(
             plan: &[u8],
             marks: &[u8; 256],
             horizon: u64,
@@ -2626,6 +2996,23 @@ mod rounds {
             }
             run_large(plan, marks, horizon, first, second, limit, zeros)
         }
+    }
+}
+
+// Rounds and the check.
+mod rounds {
+    pub use self::running::check;
+    pub use super::rounds_making::Answer;
+
+    // Rounds from the cells of a table or from zeros, and the check.
+    mod running {
+        use super::super::plan::cells;
+        use super::super::plan::horizon as horizon_of;
+        use super::super::plan::plain_marks;
+        use super::super::plan_refusal::refusal;
+        use super::super::rounds_making::rounds_to;
+        use super::super::rounds_tables::clear_cells;
+        use super::Answer;
 
         // Rounds from zeros, with a horizon that is no shorter than the plan's own.
         pub fn run_from_zeros(

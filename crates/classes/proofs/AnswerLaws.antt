@@ -9,7 +9,7 @@ use borrow.Author.Tests.{eq-eqb, ne-eqb}
 use Rattle.plan.specs.Moments.{Moments}
 use Rattle.plan.specs.Layout.{planOf}
 use Rattle.plan.specs.Refusal.{every, refusal}
-use Rattle.rounds.specs.Outcomes.{Outcome, refused}
+use Rattle.rounds_making.specs.Outcomes.{Outcome, refused}
 use Rattle.rounds.specs.AfterCheck.{AfterCheck}
 use Rattle.rounds.proofs.Meanings.{refused-means}
 use Rattle.plan.proofs.RefusalNumbers.{at-most, refusal-few}

@@ -8,7 +8,8 @@ use Rattle.plan.specs.Bytes.{byteAt}
 use Rattle.plan.specs.Plan.{Plan}
 use Rattle.plan.specs.Layout.{planOf}
 use Rattle.plan.specs.Refusal.{every, refusal}
-use Rattle.rounds.specs.Outcomes.{Outcome, refused, pick, checkOutcome, pickTable, checkTable}
+use Rattle.rounds_making.specs.Outcomes.{Outcome, refused, pick}
+use Rattle.rounds.specs.CheckOutcomes.{checkOutcome, pickTable, checkTable}
 
 -- 19.1: a table of classes, numbered from 1 to the count: the least and the most seconds of each
 pub record Devices : Type 0 where

@@ -3,7 +3,7 @@ use crate::judging::class_refusal;
 use rounds::Answer;
 use rounds::check;
 ghost use Rattle.plan.specs.Moments.{before, moments};
-ghost use Rattle.rounds.specs.Outcomes.{outcomeOf};
+ghost use Rattle.rounds_making.specs.Outcomes.{outcomeOf};
 ghost use Rattle.classes.specs.Classes.{house};
 ghost use Rattle.classes.specs.AfterCheckClasses.{AfterCheckClasses};
 

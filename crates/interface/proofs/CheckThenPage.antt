@@ -8,9 +8,11 @@ use Rattle.plan.specs.Plan.{cells}
 use Rattle.plan.specs.Layout.{planOf}
 use Rattle.plan.specs.Refusal.{Accepted}
 use Rattle.plan.proofs.Ranges.{accepted-well-formed, accepted-bounded}
-use Rattle.rounds.specs.Rounds.{zeros}
-use Rattle.rounds.specs.Outcomes.{runTable, checkTable}
-use Rattle.rounds.proofs.Small.{run-length, run-small}
+use Rattle.rounds_making.specs.Rounds.{zeros}
+use Rattle.rounds_making.specs.Outcomes.{runTable}
+use Rattle.rounds_making.proofs.TableLengths.{run-length}
+use Rattle.rounds.specs.CheckOutcomes.{checkTable}
+use Rattle.rounds.proofs.Small.{run-small}
 use Rattle.rounds.proofs.Checking.{check-leaves}
 use Rattle.page.specs.Page.{mostPrinted, pageOf, printed, pageOutcome}
 use Rattle.page.proofs.AnswerLaws.{prints}

@@ -8,8 +8,9 @@ use lib.Dec.{eqb}
 use Rattle.plan.specs.Plan.{Plan}
 use Rattle.plan.specs.Layout.{planOf}
 use Rattle.plan.specs.Refusal.{refusal}
-use Rattle.rounds.specs.Rounds.{tableFrom, firstAlarmWaits, zeros, roundsTo}
-use Rattle.rounds.specs.Outcomes.{Outcome, kept, broken, refused, pick, ended, runOutcome, tooShort, checkOutcome}
+use Rattle.rounds_making.specs.Rounds.{tableFrom, firstAlarmWaits, zeros, roundsTo}
+use Rattle.rounds_making.specs.Outcomes.{Outcome, kept, broken, refused, pick, ended, runOutcome}
+use Rattle.rounds.specs.CheckOutcomes.{tooShort, checkOutcome}
 use Rattle.plan.proofs.RefusalNumbers.{refusal-few}
 use Rattle.classes.specs.Classes.{Devices, classRefusal, classCheckOutcome}
 use Rattle.classes.proofs.AnswerLaws.{class-refusal-few}

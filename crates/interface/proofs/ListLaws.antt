@@ -6,7 +6,8 @@ use native.Mathlib.Omega.{arith}
 use lib.ListN.{length}
 use Rattle.plan.specs.Plan.{Plan}
 use Rattle.plan.specs.Layout.{planOf}
-use Rattle.rounds.specs.Outcomes.{Outcome, kept, broken, spent, refused, checkOutcome}
+use Rattle.rounds_making.specs.Outcomes.{Outcome, kept, broken, spent, refused}
+use Rattle.rounds.specs.CheckOutcomes.{checkOutcome}
 use Rattle.listing.specs.ListOutcomes.{tooLong, withListing, indexShort, listOutcome}
 use Rattle.interface.specs.Codes.{codeOf, countInto, lengthInto, numbersInto}
 use Rattle.interface.proofs.CodeLaws.{pick-few, check-few}

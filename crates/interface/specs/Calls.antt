@@ -3,7 +3,7 @@ use mathlib.Core.Path.{_≡_}
 use mathlib.Core.List.{List}
 use Prim.Native.Nat.{ℕ}
 use Rattle.plan.specs.Moments.{Moments}
-use Rattle.rounds.specs.Outcomes.{Outcome}
+use Rattle.rounds_making.specs.Outcomes.{Outcome}
 use Rattle.rounds.specs.AfterCheck.{AfterCheck}
 use Rattle.classes.specs.Classes.{Devices}
 use Rattle.classes.specs.AfterCheckClasses.{AfterCheckClasses}

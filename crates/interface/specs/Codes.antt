@@ -2,7 +2,7 @@
 use mathlib.Core.List.{List}
 use Prim.Native.Nat.{ℕ, _+_}
 use lib.ListN.{set}
-use Rattle.rounds.specs.Outcomes.{Outcome, kept, broken, spent, refused}
+use Rattle.rounds_making.specs.Outcomes.{Outcome, kept, broken, spent, refused}
 use Rattle.page.specs.Page as page
 use Rattle.minimal_rows.specs.BreakingRows as breaking
 use Rattle.conversion.specs.Conversion as conversion

@@ -7,7 +7,7 @@ use listing::list;
 use rounds::Answer;
 ghost use mathlib.Core.Path.{_≡_};
 ghost use Rattle.plan.specs.Moments.{before, after, SameLength, moments};
-ghost use Rattle.rounds.specs.Outcomes.{outcomeOf};
+ghost use Rattle.rounds_making.specs.Outcomes.{outcomeOf};
 ghost use Rattle.listing.specs.ListOutcomes.{answerOf, lengthOf};
 ghost use Rattle.interface.specs.Codes.{lengthInto};
 ghost use Rattle.interface.specs.Calls.{AfterListCall};

@@ -14,8 +14,9 @@ use Rattle.plan.specs.Plan.{Plan, cells}
 use Rattle.plan.specs.Layout.{planOf}
 use Rattle.plan.specs.Refusal.{Accepted, refusal}
 use Rattle.plan.proofs.Ranges.{accepted-well-formed}
-use Rattle.rounds.specs.Rounds.{zeros}
-use Rattle.rounds.specs.Outcomes.{Outcome, kept, broken, spent, refused, pick, runOutcome, tooShort, checkOutcome, checkTable}
+use Rattle.rounds_making.specs.Rounds.{zeros}
+use Rattle.rounds_making.specs.Outcomes.{Outcome, kept, broken, spent, refused, pick, runOutcome}
+use Rattle.rounds.specs.CheckOutcomes.{tooShort, checkOutcome, checkTable}
 use Rattle.rounds.specs.Meaning.{IsSpent, Meaning}
 use Rattle.rounds.specs.AfterCheck.{AfterCheck}
 use Rattle.rounds.proofs.Meanings.{refused-means}

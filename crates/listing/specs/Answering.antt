@@ -6,7 +6,7 @@ use lib.ListN.{length, take, drop}
 use Rattle.plan.specs.Plan.{cells}
 use Rattle.plan.specs.Layout.{planOf}
 use Rattle.plan.specs.Refusal.{Accepted}
-use Rattle.rounds.specs.Outcomes.{Outcome, kept, broken, spent, refused}
+use Rattle.rounds_making.specs.Outcomes.{Outcome, kept, broken, spent, refused}
 use Rattle.listing_lines.specs.Listed.{table, listingLines, indexTable, BreaksIn}
 use Rattle.listing.specs.ListOutcomes.{lengthWith, withListing, indexWith, HandedOver, OutputWith}
 

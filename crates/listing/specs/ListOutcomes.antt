@@ -8,7 +8,8 @@ use lib.ListN.{length, take, drop}
 use Rattle.plan.specs.Plan.{Plan, cells}
 use Rattle.plan.specs.Layout.{planOf}
 use Rattle.plan.specs.Refusal.{refusal}
-use Rattle.rounds.specs.Outcomes.{Outcome, kept, broken, spent, refused, pick, pickTable, checkOutcome, checkTable}
+use Rattle.rounds_making.specs.Outcomes.{Outcome, kept, broken, spent, refused, pick}
+use Rattle.rounds.specs.CheckOutcomes.{pickTable, checkOutcome, checkTable}
 use Rattle.listing.specs.declared.Listed.{Listed}
 use Rattle.listing.specs.declared.Listed.the-variants.{Kept, Broken, Spent, Refused}
 use Rattle.listing_lines.specs.Listed.{listingLines, indexTable}

@@ -12,7 +12,7 @@ ghost use Prim.Native.Nat.{_+_, _*_, _≤_, min};
 ghost use lib.ListN.{length};
 ghost use Rattle.plan.specs.Moments.{before, after, moments};
 ghost use Rattle.plan.specs.Layout.{planOf};
-ghost use Rattle.rounds.specs.Outcomes.{broken, outcomeOf};
+ghost use Rattle.rounds_making.specs.Outcomes.{broken, outcomeOf};
 ghost use Rattle.listing_lines.specs.Listed.{listingLines};
 ghost use Rattle.listing.specs.ListOutcomes.{answerOf, lengthOf};
 ghost use Rattle.listing.specs.AfterList.{AfterList};

@@ -22,10 +22,10 @@ use Rattle.rules.proofs.Next.{Cell, next-is}
 use Rattle.rules.proofs.Sound.{next-cases}
 use Rattle.rules.proofs.FirstAlarm.{quiet-no-line, width-le}
 use Rattle.rounds_tables.proofs.Comparing.{some-above}
-use Rattle.rounds.specs.Rounds.{zeros, firstAlarmWaits, roundsTo}
-use Rattle.rounds.specs.Outcomes.{kept, broken, pick, ended, endTable, runOutcome, runTable}
+use Rattle.rounds_making.specs.Rounds.{zeros, firstAlarmWaits, roundsTo}
+use Rattle.rounds_making.specs.Outcomes.{kept, broken, pick, ended, endTable, runOutcome, runTable}
+use Rattle.rounds_making.proofs.Stopping.{Running, some-stops, ends-broken}
 use Rattle.rounds.proofs.Bound.{given-plain}
-use Rattle.rounds.proofs.Stopping.{Running, some-stops, ends-broken}
 use Rattle.rounds.proofs.Verdict.{Inv, cell-line, first-point, inv-table}
 use Rattle.listing_lines.specs.Listed.{table, isRaised, lowestRaised, lastCell, BreaksIn}
 

@@ -20,8 +20,8 @@ use Rattle.rules.proofs.Cells.{cell-at, line-at}
 use Rattle.rules.proofs.Monotone.{waiting}
 use Rattle.rules.proofs.Next.{next-is}
 use Rattle.rules_ground.specs.Grounds.{holdsLine}
-use Rattle.rounds.specs.Rounds.{zeros}
-use Rattle.rounds.proofs.Small.{table-length}
+use Rattle.rounds_making.specs.Rounds.{zeros}
+use Rattle.rounds_making.proofs.TableLengths.{table-length}
 use Rattle.listing_lines.specs.Listed.{table, cellLines, raisedLines, linesTo, indexAt}
 use Rattle.listing_lines.proofs.IndexLaws.{index-new, index-old}
 

@@ -15,9 +15,9 @@ use Rattle.rules.specs.Lines.{lineAt}
 use Rattle.rules.proofs.Next.{IsNext, next-is}
 use Rattle.rounds_tables.specs.Cells.{same}
 use Rattle.rounds_tables.proofs.Comparing.{eq-same}
-use Rattle.rounds.specs.Rounds.{zeros}
-use Rattle.rounds.proofs.Stopping.{Running, running-less, tests-fail}
-use Rattle.rounds.proofs.Small.{table-length}
+use Rattle.rounds_making.specs.Rounds.{zeros}
+use Rattle.rounds_making.proofs.Stopping.{Running, running-less, tests-fail}
+use Rattle.rounds_making.proofs.TableLengths.{table-length}
 use Rattle.listing_lines.specs.Listed.{table, cellLines, raisedLines, linesTo, listingLines}
 
 module _ (P : Plan) (T U : List ℕ) where

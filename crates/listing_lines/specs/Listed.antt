@@ -8,8 +8,8 @@ use lib.ListN.{getD}
 use Rattle.plan.specs.Plan.{Plan, width, cells}
 use Rattle.rules.specs.declared.Line.{Line}
 use Rattle.rules.specs.Lines.{below, cellOf, lineAt}
-use Rattle.rounds.specs.Rounds.{tableFrom, zeros}
-use Rattle.rounds.specs.Outcomes.{broken, runOutcome}
+use Rattle.rounds_making.specs.Rounds.{tableFrom, zeros}
+use Rattle.rounds_making.specs.Outcomes.{broken, runOutcome}
 
 -- 8.2: table(r) of the check
 abbrev pub table : Plan → ℕ → List ℕ

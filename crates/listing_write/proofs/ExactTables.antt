@@ -16,10 +16,11 @@ use Rattle.rules.specs.Tables.{next}
 use Rattle.rules.proofs.Next.{next-is}
 use Rattle.rules_fill.specs.Parts.{AtMost, laidOver}
 use Rattle.rounds_tables.specs.Ready.{Ready}
-use Rattle.rounds.specs.Rounds.{zeros}
-use Rattle.rounds.proofs.Stopping.{Running, running-less}
-use Rattle.rounds.proofs.Small.{table-length, table-high}
-use Rattle.rounds.proofs.RoundsMade.{laid-joined}
+use Rattle.rounds_making.specs.Rounds.{zeros}
+use Rattle.rounds_making.proofs.Stopping.{Running, running-less}
+use Rattle.rounds_making.proofs.TableLengths.{table-length}
+use Rattle.rounds_making.proofs.RoundsMade.{laid-joined}
+use Rattle.rounds.proofs.Small.{table-high}
 use Rattle.listing_lines.specs.Listed.{table, BreaksIn}
 use Rattle.listing_write.specs.Progress.{Exact}
 use Rattle.listing_lines.proofs.Ending.{breaks-facts}

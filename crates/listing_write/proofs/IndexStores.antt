@@ -7,6 +7,7 @@ use native.Mathlib.Decide.{ℕ-discrete}
 use native.Mathlib.Numerals.{add-one}
 use native.Mathlib.Omega.{arith}
 use borrow.Author.Tests.{lt-ltb, le-ltb, eq-eqb, ne-eqb}
+use lib.Bits.{bitAnd}
 use lib.ListN.{length, getD, set, length-append}
 use lib.Seq.{getD-set-same, getD-set-other}
 use lib.Pow.{pow-pos}
@@ -18,17 +19,22 @@ use Rattle.plan.proofs.Ranges.{accepted-bounded}
 use Rattle.rules.specs.declared.Line.{Line}
 use Rattle.rules.specs.Lines.{cellOf, lineAt}
 use Rattle.rules.proofs.Cells.{cell-at}
+use Rattle.rules_ground.proofs.LineLaws.{width-and}
 use Rattle.listing_lines.specs.Listed.{cellLines, raisedLines, startNumber, indexAt, indexTable}
 use Rattle.listing_write.specs.Progress.{Numbered}
 use Rattle.listing_lines.proofs.IndexLaws.{index-by, index-more}
 use Rattle.listing_lines.proofs.LineCounts.{raised-within}
 
 -- ---- the start
-pub start-other : (P : Plan) (w c : ℕ) → w ≡ width P → (c % w ≡ 0 → ⊥) → 0 ≡ startNumber P c
-start-other P w c e h = let z : c % width P ≡ 0 → ⊥ = λ q. h (rw e q) in rw (ne-eqb (c % width P) 0 z) refl
+-- by a mask, since the width is a power of 2
+start-mask : (P : Plan) (w c : ℕ) → w ≡ width P → bitAnd c (w - 1) ≡ c % width P
+start-mask P w c e = rw e (width-and (P .links) (P .propositions) c)
 
-pub start-point : (P : Plan) (w c : ℕ) → w ≡ width P → c % w ≡ 0 → c / w ≡ startNumber P c
-start-point P w c e h = let z : c % width P ≡ 0 = rw (← e) h in rw (eq-eqb (c % width P) 0 z, e) refl
+pub start-other : (P : Plan) (w c : ℕ) → w ≡ width P → (bitAnd c (w - 1) ≡ 0 → ⊥) → 0 ≡ startNumber P c
+start-other P w c e h = rw (ne-eqb (c % width P) 0 (λ q. h (start-mask P w c e ∙ q))) refl
+
+pub start-point : (P : Plan) (w c : ℕ) → w ≡ width P → bitAnd c (w - 1) ≡ 0 → c / w ≡ startNumber P c
+start-point P w c e h = rw (eq-eqb (c % width P) 0 (sym (start-mask P w c e) ∙ h), e) refl
 
 pub quotient-fits : (c w n : ℕ) → c < n → c / w < n
 quotient-fits c w n h = omega (arith, div-le-self c w)

@@ -20,12 +20,12 @@ pub fn put_number(index: &mut [u16], c: usize, number: usize)
     index[c] = number as u16;
 }
 
-// The point of a starting cell; 0 for another cell.
+// The point of a starting cell; 0 for another cell. The width is a power of 2, so that a mask finds the starting cells without a division.
 fn start_number(width: usize, c: usize) -> usize
     requires { ⌜ (0 < width) × (c < 65536) ⌝ }
     ensures { λ r. ⌜ ((P : Plan) → width ≡ widthOf P → r ≡ startNumber P c) × (r < 65536) ⌝ }
 {
-    if c % width != 0 {
+    if c & (width - 1) != 0 {
         return 0;
     }
     c / width

@@ -15,11 +15,11 @@ use Rattle.plan.specs.Horizons.{planWith}
 use Rattle.plan.specs.Refusal.{Accepted, refusal}
 use Rattle.plan.proofs.Ranges.{accepted-well-formed}
 use Rattle.plan_rows.specs.Rows.{marked}
-use Rattle.rounds.specs.Rounds.{zeros}
-use Rattle.rounds.specs.Outcomes.{Outcome, runOutcome, runTable}
+use Rattle.rounds_making.specs.Rounds.{zeros}
+use Rattle.rounds_making.specs.Outcomes.{Outcome, runOutcome, runTable}
+use Rattle.rounds_making.proofs.TableLengths.{run-length}
 use Rattle.rounds.specs.Meaning.{enoughRounds}
-use Rattle.rounds.specs.Runs.{RanFromZeros}
-use Rattle.rounds.proofs.Small.{run-length}
+use Rattle.rounds.specs.FromZeros.{RanFromZeros}
 use Rattle.plan.proofs.RefusalNumbers.{at-most, refusal-few, refusal-never}
 use Rattle.minimal_rows.specs.Trials.{trialOutcome, trialTable, isKept, isBroken, allRows, breakingMarks}
 use Rattle.minimal_rows.specs.BreakingRows.{rows, refused, rowsTooShort, rowsRefusal, rowsOutcome, rowsMarks, rowsTable}

@@ -19,11 +19,11 @@ use Rattle.rules.specs.Derivations.{Derivation, SelfWait}
 use Rattle.rules.proofs.Fewer.{fewer-derivation, fewer-self-wait}
 use Rattle.rules_panel.specs.Dramas.{AnyDuration}
 use Rattle.rules_panel.specs.Strategies.{Panel}
-use Rattle.rounds.specs.Rounds.{zeros}
-use Rattle.rounds.specs.Outcomes.{Outcome, kept, broken, spent, refused, runOutcome, runTable}
+use Rattle.rounds_making.specs.Rounds.{zeros}
+use Rattle.rounds_making.specs.Outcomes.{Outcome, kept, broken, spent, refused, runOutcome, runTable}
+use Rattle.rounds_making.proofs.TableLengths.{run-length}
 use Rattle.rounds.specs.Meaning.{IsKept, IsBroken, IsSpent, IsRefused, enoughRounds}
 use Rattle.rounds.proofs.Meanings.{RunSays, run-says, means}
-use Rattle.rounds.proofs.Small.{run-length}
 use Rattle.rounds.proofs.SameRuns.{same-outcome, same-run}
 use Rattle.minimal_rows.specs.Trials.{remaining, trialOutcome, trialTable, isKept, isBroken, allRows}
 use Rattle.minimal_rows.specs.AfterBreakingRows.{TrialsMean}

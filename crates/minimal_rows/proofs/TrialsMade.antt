@@ -20,10 +20,10 @@ use Rattle.plan_rows.proofs.SomeRows.{some-well-formed}
 use Rattle.plan_rows.proofs.Marked.{marked-rows-in}
 use Rattle.plan_rows.proofs.RowPlans.{rows-accepted, rows-horizon, rows-fewer, fewer-rows}
 use Rattle.rules.proofs.Fewer.{fewer-cells}
-use Rattle.rounds.specs.Rounds.{zeros}
-use Rattle.rounds.specs.Outcomes.{Outcome, runOutcome, runTable}
+use Rattle.rounds_making.specs.Rounds.{zeros}
+use Rattle.rounds_making.specs.Outcomes.{Outcome, runOutcome, runTable}
 use Rattle.rounds.specs.Meaning.{enoughRounds}
-use Rattle.rounds.specs.Runs.{ZerosLent, RanFromZeros}
+use Rattle.rounds.specs.FromZeros.{ZerosLent, RanFromZeros}
 use Rattle.rounds.proofs.SameRuns.{same-outcome, same-run}
 use Rattle.minimal_rows.specs.declared.Trial.{Trial}
 use Rattle.minimal_rows.specs.Trials.{trialTable, isBroken}

@@ -8,7 +8,7 @@ use Rattle.plan.specs.Plan.{Plan, cells}
 use Rattle.plan.specs.Layout.{planOf}
 use Rattle.plan.specs.Refusal.{refusal}
 use Rattle.plan_rows.specs.Rows.{marked}
-use Rattle.rounds.specs.Outcomes.{tooShort}
+use Rattle.rounds.specs.CheckOutcomes.{tooShort}
 use Rattle.minimal_rows.specs.declared.Reduced.{Reduced}
 use Rattle.minimal_rows.specs.declared.Reduced.the-variants.{Rows, Refused}
 use Rattle.minimal_rows.specs.Trials.{trialOutcome, trialTable, isKept, allRows, breakingMarks}

@@ -10,8 +10,8 @@ use Rattle.plan.specs.Plan.{Plan, cells}
 use Rattle.plan.specs.Layout.{planOf}
 use Rattle.plan.specs.Refusal.{Accepted}
 use Rattle.plan_rows.specs.Rows.{withRows, marked}
-use Rattle.rounds.specs.Rounds.{zeros}
-use Rattle.rounds.specs.Outcomes.{runOutcome, runTable}
+use Rattle.rounds_making.specs.Rounds.{zeros}
+use Rattle.rounds_making.specs.Outcomes.{runOutcome, runTable}
 use Rattle.rounds.specs.Meaning.{enoughRounds}
 use Rattle.minimal_rows.specs.declared.Trial.{Trial}
 use Rattle.minimal_rows.specs.declared.Progress.{Progress}

@@ -5,8 +5,8 @@ use Prim.Native.Nat.{ℕ, zero, suc}
 use lib.ListN.{set, replicate}
 use Rattle.plan.specs.Plan.{Plan}
 use Rattle.plan_rows.specs.Rows.{withRows, marked}
-use Rattle.rounds.specs.Rounds.{zeros}
-use Rattle.rounds.specs.Outcomes.{Outcome, kept, broken, spent, refused, runOutcome, runTable}
+use Rattle.rounds_making.specs.Rounds.{zeros}
+use Rattle.rounds_making.specs.Outcomes.{Outcome, kept, broken, spent, refused, runOutcome, runTable}
 use Rattle.rounds.specs.Meaning.{enoughRounds}
 
 -- 21.3: the plan that a trial of marks is of: just the rows with mark 1 remain

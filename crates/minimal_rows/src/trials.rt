@@ -11,7 +11,7 @@ ghost use lib.ListN.{length};
 ghost use Rattle.plan.specs.Moments.{before, moments};
 ghost use Rattle.plan.specs.Layout.{planOf};
 ghost use Rattle.plan_rows.specs.RowBytes.{RowsIn};
-ghost use Rattle.rounds.specs.Outcomes.{outcomeOf};
+ghost use Rattle.rounds_making.specs.Outcomes.{outcomeOf};
 ghost use Rattle.minimal_rows.specs.Trials.{isBroken};
 ghost use Rattle.minimal_rows.specs.Reducing.{TrialLent, MarksLent, RowsTried, Tried};
 

@@ -1,7 +1,8 @@
 -- The bytes of a plan (3). Nothing else knows where a field stands.
+use mathlib.Core.Path.{_≡_}
 use mathlib.Core.Bool.{cond}
 use mathlib.Core.List.{List}
-use Prim.Native.Nat.{ℕ, zero, suc, _+_, _-_, _*_, max}
+use Prim.Native.Nat.{ℕ, zero, suc, _+_, _-_, _*_, _<_, max}
 use lib.Dec.{ltb, eqb}
 use lib.ListN.{length}
 use Rattle.plan.specs.Bytes.{byteAt, wordAt}
@@ -32,6 +33,11 @@ dataAt bs r = endsAt bs (byteAt bs 2 + byteAt bs 3) + 4 * r
 -- 3.4: the row of edge i
 unfoldable pub edgeRow : List ℕ → ℕ → ℕ
 edgeRow bs i = byteAt bs 2 + i
+
+-- where the ends and the four bytes of edge 0 stand, for loops over edges, which find it once
+abbrev pub EdgesAt : List ℕ → ℕ → ℕ → Type 0
+EdgesAt bs ends bytes =
+    (ends ≡ endsAt bs (edgeRow bs 0)) × (ends < 2048) × (bytes ≡ dataAt bs (edgeRow bs 0)) × (bytes < 4096)
 
 -- 1.4, 3.5: a 16-bit weight u in two's complement: u where u ≥ 0, and -u where u < 0
 unfoldable pub upOf : ℕ → ℕ

@@ -1,5 +1,6 @@
 // M and the horizon.
-use crate::fields::edge_down;
+use crate::fields::edge_data_at;
+use crate::fields::edge_down_at;
 use crate::fields::edges;
 use crate::fields::link_most;
 use crate::fields::links;
@@ -26,8 +27,9 @@ fn greatest_down(plan: &[u8]) -> u64
 {
     let mut most = 0;
     let n = edges(plan);
+    let bytes = edge_data_at(plan);
     for i in 0..n {
-        most = greater(most, edge_down(plan, i));
+        most = greater(most, edge_down_at(plan, bytes, i));
     }
     most
 }

@@ -2,9 +2,8 @@
 use crate::bytes::byte_at;
 use crate::bytes::word_at;
 ghost use mathlib.Core.Path.{_≡_};
-ghost use Prim.Native.Nat.{_+_, _<_, _≤_, _^_};
+ghost use Prim.Native.Nat.{_<_, _≤_, _^_};
 ghost use Rattle.plan.specs.Moments.{before};
-ghost use Rattle.plan.specs.Bytes.{byteAt};
 ghost use Rattle.plan.specs.Plan.{width as widthOf, cells as cellsOf};
 ghost use Rattle.plan.specs.Layout.{planOf, labelsAt, labelBytes, endsAt, dataAt, edgeRow, spareAt, lengthFor};
 
@@ -153,13 +152,6 @@ pub fn link_most(plan: &[u8], i: usize) -> u64
     word_at(plan, data_at(plan, i) + 2)
 }
 
-pub fn edge_from(plan: &[u8], i: usize) -> usize
-    requires { ⌜ i < 256 ⌝ }
-    ensures { λ r. ⌜ (r ≡ planOf (before plan) .from i) × (r < 256) ⌝ }
-{
-    byte_at(plan, ends_at(plan, edge_row(plan, i)))
-}
-
 // Where the ends of edge 0 stand.
 pub fn edges_at(plan: &[u8]) -> usize
     ensures { λ r. ⌜ (r ≡ endsAt (before plan) (edgeRow (before plan) 0)) × (r < 2048) ⌝ }
@@ -167,7 +159,14 @@ pub fn edges_at(plan: &[u8]) -> usize
     ends_at(plan, edge_row(plan, 0))
 }
 
-// The start of an edge for loops over edges, which find once where the ends of edge 0 stand.
+// Where the four bytes of edge 0 stand.
+pub fn edge_data_at(plan: &[u8]) -> usize
+    ensures { λ r. ⌜ (r ≡ dataAt (before plan) (edgeRow (before plan) 0)) × (r < 4096) ⌝ }
+{
+    data_at(plan, edge_row(plan, 0))
+}
+
+// The fields of an edge for loops over edges, which find once where edge 0 stands.
 pub fn edge_from_at(plan: &[u8], ends: usize, i: usize) -> usize
     requires { ⌜ (i < 256) × (ends ≡ endsAt (now plan) (edgeRow (now plan) 0)) × (ends < 2048) ⌝ }
     ensures { λ r. ⌜ (r ≡ planOf (before plan) .from i) × (r < 256) ⌝ }
@@ -175,19 +174,19 @@ pub fn edge_from_at(plan: &[u8], ends: usize, i: usize) -> usize
     byte_at(plan, ends + 2 * i)
 }
 
-pub fn edge_to(plan: &[u8], i: usize) -> usize
-    requires { ⌜ i < 256 ⌝ }
+pub fn edge_to_at(plan: &[u8], ends: usize, i: usize) -> usize
+    requires { ⌜ (i < 256) × (ends ≡ endsAt (now plan) (edgeRow (now plan) 0)) × (ends < 2048) ⌝ }
     ensures { λ r. ⌜ (r ≡ planOf (before plan) .to i) × (r < 256) ⌝ }
 {
-    byte_at(plan, ends_at(plan, edge_row(plan, i)) + 1)
+    byte_at(plan, ends + 2 * i + 1)
 }
 
 // The weight where it is not negative, else 0.
-pub fn edge_up(plan: &[u8], i: usize) -> u64
-    requires { ⌜ i < 256 ⌝ }
+pub fn edge_up_at(plan: &[u8], bytes: usize, i: usize) -> u64
+    requires { ⌜ (i < 256) × (bytes ≡ dataAt (now plan) (edgeRow (now plan) 0)) × (bytes < 4096) ⌝ }
     ensures { λ r. ⌜ (r ≡ planOf (before plan) .up i) × (r < 65536) ⌝ }
 {
-    let weight = word_at(plan, data_at(plan, edge_row(plan, i)));
+    let weight = word_at(plan, bytes + 4 * i);
     if weight < 32768 {
         return weight;
     }
@@ -195,36 +194,64 @@ pub fn edge_up(plan: &[u8], i: usize) -> u64
 }
 
 // The weight's negative where it is negative, else 0.
-pub fn edge_down(plan: &[u8], i: usize) -> u64
-    requires { ⌜ i < 256 ⌝ }
+pub fn edge_down_at(plan: &[u8], bytes: usize, i: usize) -> u64
+    requires { ⌜ (i < 256) × (bytes ≡ dataAt (now plan) (edgeRow (now plan) 0)) × (bytes < 4096) ⌝ }
     ensures { λ r. ⌜ (r ≡ planOf (before plan) .down i) × (r < 65536) ⌝ }
 {
-    let weight = word_at(plan, data_at(plan, edge_row(plan, i)));
+    let weight = word_at(plan, bytes + 4 * i);
     if weight < 32768 {
         return 0;
     }
     65536 - weight
 }
 
-// One of the four bytes of an edge.
-fn edge_byte(plan: &[u8], i: usize, k: usize) -> usize
-    requires { ⌜ (i < 256) × (k < 4) ⌝ }
-    ensures { λ r. ⌜ (r ≡ byteAt (before plan) (dataAt (before plan) (edgeRow (before plan) i) + k)) × (r < 256) ⌝ }
+pub fn edge_label_at(plan: &[u8], bytes: usize, i: usize) -> usize
+    requires { ⌜ (i < 256) × (bytes ≡ dataAt (now plan) (edgeRow (now plan) 0)) × (bytes < 4096) ⌝ }
+    ensures { λ r. ⌜ (r ≡ planOf (before plan) .label i) × (r < 256) ⌝ }
 {
-    byte_at(plan, data_at(plan, edge_row(plan, i)) + k)
+    byte_at(plan, bytes + 4 * i + 2)
+}
+
+// The spare byte of an edge.
+pub fn edge_spare_at(plan: &[u8], bytes: usize, i: usize) -> usize
+    requires { ⌜ (i < 256) × (bytes ≡ dataAt (now plan) (edgeRow (now plan) 0)) × (bytes < 4096) ⌝ }
+    ensures { λ r. ⌜ (r ≡ spareAt (before plan) i) × (r < 256) ⌝ }
+{
+    byte_at(plan, bytes + 4 * i + 3)
+}
+
+// The fields of an edge that is asked for alone.
+pub fn edge_from(plan: &[u8], i: usize) -> usize
+    requires { ⌜ i < 256 ⌝ }
+    ensures { λ r. ⌜ (r ≡ planOf (before plan) .from i) × (r < 256) ⌝ }
+{
+    edge_from_at(plan, edges_at(plan), i)
+}
+
+pub fn edge_to(plan: &[u8], i: usize) -> usize
+    requires { ⌜ i < 256 ⌝ }
+    ensures { λ r. ⌜ (r ≡ planOf (before plan) .to i) × (r < 256) ⌝ }
+{
+    edge_to_at(plan, edges_at(plan), i)
+}
+
+pub fn edge_up(plan: &[u8], i: usize) -> u64
+    requires { ⌜ i < 256 ⌝ }
+    ensures { λ r. ⌜ (r ≡ planOf (before plan) .up i) × (r < 65536) ⌝ }
+{
+    edge_up_at(plan, edge_data_at(plan), i)
+}
+
+pub fn edge_down(plan: &[u8], i: usize) -> u64
+    requires { ⌜ i < 256 ⌝ }
+    ensures { λ r. ⌜ (r ≡ planOf (before plan) .down i) × (r < 65536) ⌝ }
+{
+    edge_down_at(plan, edge_data_at(plan), i)
 }
 
 pub fn edge_label(plan: &[u8], i: usize) -> usize
     requires { ⌜ i < 256 ⌝ }
     ensures { λ r. ⌜ (r ≡ planOf (before plan) .label i) × (r < 256) ⌝ }
 {
-    edge_byte(plan, i, 2)
-}
-
-// The spare byte of an edge.
-pub fn edge_spare(plan: &[u8], i: usize) -> usize
-    requires { ⌜ i < 256 ⌝ }
-    ensures { λ r. ⌜ (r ≡ spareAt (before plan) i) × (r < 256) ⌝ }
-{
-    edge_byte(plan, i, 3)
+    edge_label_at(plan, edge_data_at(plan), i)
 }

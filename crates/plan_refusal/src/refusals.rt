@@ -1,13 +1,15 @@
 // Refusals 1 to 5, 17 and 18, in their order.
 use plan::MOST_SECONDS;
 use plan::cells;
-use plan::edge_down;
-use plan::edge_from;
-use plan::edge_label;
-use plan::edge_spare;
-use plan::edge_to;
-use plan::edge_up;
+use plan::edge_data_at;
+use plan::edge_down_at;
+use plan::edge_from_at;
+use plan::edge_label_at;
+use plan::edge_spare_at;
+use plan::edge_to_at;
+use plan::edge_up_at;
 use plan::edges;
+use plan::edges_at;
 use plan::length_for;
 use plan::link_activation;
 use plan::link_finish;
@@ -22,11 +24,10 @@ use plan_labels::label_fits;
 use plan_labels::point_labels_fit;
 use plan_labels::well_defined;
 ghost use mathlib.Core.Path.{_≡_};
-ghost use mathlib.Core.Bool.{true, false};
-ghost use Prim.Native.Nat.{_+_, _*_, _<_, _≤_};
+ghost use Prim.Native.Nat.{_<_, _≤_};
 ghost use Rattle.plan.specs.Moments.{before};
 ghost use Rattle.plan.specs.Label.{Marks};
-ghost use Rattle.plan.specs.Layout.{planOf};
+ghost use Rattle.plan.specs.Layout.{planOf, EdgesAt};
 ghost use Rattle.plan.specs.Refusal.{every, differs, sizesFit, lengthFits, observerFits, linkEndsFit, durationFits, linkFits, edgeEndsFit, edgeFits, refusal as refusalOf};
 
 // The numbers of the refusals.
@@ -231,34 +232,37 @@ fn edges_fit(plan: &[u8]) -> bool
 {
     let marks = plain_marks();
     let n = edges(plan);
+    let ends = edges_at(plan);
+    let bytes = edge_data_at(plan);
     for i in 0..n {
-        if !edge_fits(plan, &marks, i) {
+        if !edge_fits(plan, &marks, ends, bytes, i) {
             return false;
         }
     }
     true
 }
 
-fn edge_fits(plan: &[u8], marks: &[u8; 256], i: usize) -> bool
+fn edge_fits(plan: &[u8], marks: &[u8; 256], ends: usize, bytes: usize, i: usize) -> bool
     requires { ⌜ (i < 256) × (planOf (now plan) .propositions ≤ 4) × Marks (now marks) ⌝ }
+    requires { ⌜ EdgesAt (now plan) ends bytes ⌝ }
     ensures { λ r. ⌜ r ≡ edgeFits (before plan) (planOf (before plan)) i ⌝ }
 {
-    if !edge_ends_fit(plan, i) {
+    if !edge_ends_fit(plan, ends, bytes, i) {
         return false;
     }
-    if !label_fits(plan, marks, edge_label(plan, i)) {
+    if !label_fits(plan, marks, edge_label_at(plan, bytes, i)) {
         return false;
     }
-    edge_spare(plan, i) == 0
+    edge_spare_at(plan, bytes, i) == 0
 }
 
-fn edge_ends_fit(plan: &[u8], i: usize) -> bool
-    requires { ⌜ i < 256 ⌝ }
+fn edge_ends_fit(plan: &[u8], ends: usize, bytes: usize, i: usize) -> bool
+    requires { ⌜ (i < 256) × EdgesAt (now plan) ends bytes ⌝ }
     ensures { λ r. ⌜ r ≡ edgeEndsFit (planOf (before plan)) i ⌝ }
 {
     let n = points(plan);
-    let x = edge_from(plan, i);
-    let y = edge_to(plan, i);
+    let x = edge_from_at(plan, ends, i);
+    let y = edge_to_at(plan, ends, i);
     if n <= x {
         return false;
     }
@@ -268,8 +272,8 @@ fn edge_ends_fit(plan: &[u8], i: usize) -> bool
     if x == y {
         return false;
     }
-    if MOST_SECONDS < edge_up(plan, i) {
+    if MOST_SECONDS < edge_up_at(plan, bytes, i) {
         return false;
     }
-    edge_down(plan, i) <= MOST_SECONDS
+    edge_down_at(plan, bytes, i) <= MOST_SECONDS
 }

@@ -10,8 +10,8 @@ use Rattle.plan.specs.LinkSet.{contains, union, insert, remove}
 use Rattle.plan.specs.Layout.{endsAt, dataAt, edgeRow, upOf, downOf, greatest, mostAt, downAt, largestOf, planOf, spareAt, lengthFor, labelBytes, labelledLengthFor}
 use Rattle.plan.specs.Refusal.{every, differs, sizesFit, observerFits, linkEndsFit, durationFits, linkFits, edgeEndsFit, labelFits, edgeFits, refusalOf, refusal, Accepted, some, lengthFits, pointLabelFits, containsLabel, containsObservers, putsAfter, comesAfter, pointWellDefined, edgeWellDefined, linkWellDefined, wellDefined}
 use Rattle.rules.specs.Tables.{raiseCell, next}
-use Rattle.rounds.specs.Rounds.{zeros}
-use Rattle.rounds.specs.Outcomes.{Outcome, runOutcome, runTable}
+use Rattle.rounds_making.specs.Rounds.{zeros}
+use Rattle.rounds_making.specs.Outcomes.{Outcome, runOutcome, runTable}
 use Rattle.rounds.proofs.Checking.{check-runs, check-leaves}
 use Rattle.text.specs.Decimal.{digits, decimal}
 use Rattle.text.specs.Joined.{joined}

@@ -15,11 +15,13 @@ use Rattle.plan.specs.Layout.{planOf, mostBytes}
 use Rattle.plan.specs.Refusal.{Accepted}
 use Rattle.plan.proofs.Ranges.{accepted-well-formed, accepted-bounded}
 use Rattle.rounds_tables.proofs.RoundLaws.{row-within}
-use Rattle.rounds.specs.Rounds.{zeros}
-use Rattle.rounds.specs.Outcomes.{Outcome, kept, broken, spent, refused, pick, runOutcome, runTable, checkOutcome, checkTable}
+use Rattle.rounds_making.specs.Rounds.{zeros}
+use Rattle.rounds_making.specs.Outcomes.{Outcome, kept, broken, spent, refused, pick, runOutcome, runTable}
+use Rattle.rounds_making.proofs.Stopping.{Stops, Running, stops-or-runs, ends-at, ends-spent}
+use Rattle.rounds_making.proofs.TableLengths.{run-length}
+use Rattle.rounds.specs.CheckOutcomes.{checkOutcome, checkTable}
 use Rattle.rounds.specs.Meaning.{servingLimit}
-use Rattle.rounds.proofs.Stopping.{Stops, Running, stops-or-runs, ends-at, ends-spent}
-use Rattle.rounds.proofs.Small.{run-length, run-small}
+use Rattle.rounds.proofs.Small.{run-small}
 use Rattle.rounds.proofs.Checking.{check-runs, check-leaves, refuses-or-runs}
 use Rattle.text.specs.Joined.{joined}
 use Rattle.text.proofs.Decimals.{decimal-length}

@@ -12,7 +12,8 @@ use borrow.Author.Tests.{lt-ltb, le-ltb}
 use Rattle.plan.specs.Plan.{Plan, width, cells}
 use Rattle.plan.specs.Layout.{planOf, mostBytes}
 use Rattle.plan.specs.Refusal.{Accepted}
-use Rattle.rounds.specs.Outcomes.{Outcome, refused, checkOutcome, checkTable}
+use Rattle.rounds_making.specs.Outcomes.{Outcome, refused}
+use Rattle.rounds.specs.CheckOutcomes.{checkOutcome, checkTable}
 use Rattle.rounds.specs.Meaning.{IsSpent, servingLimit, Meaning}
 use Rattle.rounds.specs.AfterCheck.{AfterCheck}
 use Rattle.rounds.proofs.Meanings.{refused-means}

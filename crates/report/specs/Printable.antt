@@ -7,7 +7,7 @@ use lib.ListN.{length}
 use Rattle.plan.specs.Plan.{cells}
 use Rattle.plan.specs.Layout.{planOf}
 use Rattle.plan.specs.Refusal.{Accepted}
-use Rattle.rounds.specs.Outcomes.{Outcome}
+use Rattle.rounds_making.specs.Outcomes.{Outcome}
 use Rattle.text.specs.Buffer.{TextFits}
 use Rattle.report.specs.Text.{isRefused, textOf}
 

@@ -5,7 +5,8 @@ use Prim.Native.Nat.{ℕ}
 use lib.Dec.{ltb}
 use lib.ListN.{length, take, drop}
 use Rattle.plan.specs.Layout.{planOf, mostBytes}
-use Rattle.rounds.specs.Outcomes.{Outcome, refused, checkOutcome, checkTable}
+use Rattle.rounds_making.specs.Outcomes.{Outcome, refused}
+use Rattle.rounds.specs.CheckOutcomes.{checkOutcome, checkTable}
 use Rattle.rounds.specs.Meaning.{servingLimit}
 use Rattle.report.specs.Text.{textOf}
 

@@ -4,7 +4,7 @@ use mathlib.Core.List.{List, [], _∷_, _++_}
 use Prim.Native.Nat.{ℕ, _+_, _*_}
 use lib.ListN.{getD}
 use Rattle.plan.specs.Plan.{Plan, width}
-use Rattle.rounds.specs.Outcomes.{Outcome, kept, broken, spent, refused}
+use Rattle.rounds_making.specs.Outcomes.{Outcome, kept, broken, spent, refused}
 use Rattle.text.specs.Decimal.{decimal}
 use Rattle.text.specs.Joined.{joined}
 

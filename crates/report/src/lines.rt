@@ -8,7 +8,7 @@ ghost use mathlib.Core.List.{_∷_};
 ghost use Prim.Native.Nat.{_+_, _*_, _≤_};
 ghost use lib.ListN.{length};
 ghost use Rattle.plan.specs.Moments.{before, after};
-ghost use Rattle.rounds.specs.Outcomes.{outcomeOf};
+ghost use Rattle.rounds_making.specs.Outcomes.{outcomeOf};
 ghost use Rattle.text.specs.Decimal.{decimal};
 ghost use Rattle.text.specs.Joined.{joined};
 ghost use Rattle.text.specs.Buffer.{TextFits, TextPut};

@@ -10,7 +10,7 @@ use rounds::SERVING_LIMIT;
 use rounds::check;
 ghost use Rattle.plan.specs.Moments.{before, after, moments};
 ghost use Rattle.plan.specs.Layout.{planOf};
-ghost use Rattle.rounds.specs.Outcomes.{outcomeOf};
+ghost use Rattle.rounds_making.specs.Outcomes.{outcomeOf};
 ghost use Rattle.text.specs.Buffer.{TextPut};
 ghost use Rattle.report.specs.Text.{textOf};
 ghost use Rattle.report.specs.AfterReport.{AfterReport};

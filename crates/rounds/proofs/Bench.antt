@@ -10,10 +10,10 @@ use Rattle.plan.specs.LinkSet.{contains, union, insert, remove}
 use Rattle.plan.specs.Layout.{endsAt, dataAt, edgeRow, upOf, downOf, greatest, mostAt, downAt, largestOf, planOf, spareAt, lengthFor, labelBytes, labelledLengthFor}
 use Rattle.plan.specs.Refusal.{every, differs, sizesFit, observerFits, linkEndsFit, durationFits, linkFits, edgeEndsFit, labelFits, edgeFits, refusalOf, refusal, some, lengthFits, pointLabelFits, containsLabel, containsObservers, putsAfter, comesAfter, pointWellDefined, edgeWellDefined, linkWellDefined, wellDefined}
 use Rattle.rules.specs.Tables.{raiseCell, next}
-use Rattle.rounds.specs.Rounds.{zeros}
+use Rattle.rounds_making.specs.Rounds.{zeros}
+use Rattle.rounds_making.specs.Outcomes.{Outcome, kept, broken, pick, runOutcome, runTable}
+use Rattle.rounds_making.proofs.Stopping.{ends-more}
 use Rattle.rounds.specs.Meaning.{servingLimit}
-use Rattle.rounds.specs.Outcomes.{Outcome, kept, broken, pick, runOutcome, runTable}
-use Rattle.rounds.proofs.Stopping.{ends-more}
 
 -- a plan's bytes, whether it is broken, R, and the cells of that round's table
 pub record Row : Type 0 where

@@ -20,16 +20,19 @@ use Rattle.plan.proofs.Ranges.{WellFormed, accepted-bounded}
 use Rattle.plan.proofs.Horizons.{own-horizon, with-well-formed}
 use Rattle.plan.proofs.RefusalNumbers.{refusal-few}
 use Rattle.rules_fill.specs.Parts.{laidOver}
-use Rattle.rounds.specs.Rounds.{tableFrom, zeros, roundsTo}
-use Rattle.rounds.specs.Outcomes.{Outcome, refused, runOutcome, runTable, tooShort, checkOutcome, checkTable}
+use Rattle.rounds_making.specs.Rounds.{tableFrom, zeros, roundsTo}
+use Rattle.rounds_making.specs.Outcomes.{Outcome, refused, runOutcome, runTable}
+use Rattle.rounds_making.specs.Runs.{RoomFrom, RunLent, Ran}
+use Rattle.rounds_making.proofs.Stopping.{none-runs}
+use Rattle.rounds_making.proofs.TableLengths.{table-length}
+use Rattle.rounds_making.proofs.RoundsMade.{front-is, back-is}
+use Rattle.rounds.specs.CheckOutcomes.{tooShort, checkOutcome, checkTable}
 use Rattle.rounds.specs.Meaning.{Meaning}
 use Rattle.rounds.specs.AfterCheck.{AfterCheck}
-use Rattle.rounds.specs.Runs.{RoomFrom, RunLent, Ran, ZerosLent, RanFromZeros}
-use Rattle.rounds.proofs.Stopping.{none-runs}
-use Rattle.rounds.proofs.Small.{table-length, table-high}
+use Rattle.rounds.specs.FromZeros.{ZerosLent, RanFromZeros}
+use Rattle.rounds.proofs.Small.{table-high}
 use Rattle.rounds.proofs.Meanings.{refused-means, run-means-bytes, decided}
 use Rattle.rounds.proofs.Unlabelled.{unlabelled-check}
-use Rattle.rounds.proofs.RoundsMade.{front-is, back-is}
 
 module _ (bs F G : List ℕ) (limit : ℕ) where
   -- ---- where nothing is refused

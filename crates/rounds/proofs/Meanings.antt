@@ -22,11 +22,11 @@ use Rattle.rules_follow.specs.Following.{Preference, Followed}
 use Rattle.rules_follow.proofs.TableLines.{Closed}
 use Rattle.rules_follow.proofs.Followed.{closed-on, quiet-on, followed}
 use Rattle.rounds_tables.proofs.Comparing.{same-eq}
-use Rattle.rounds.specs.Rounds.{tableFrom, zeros, firstAlarmWaits, stopsAt}
-use Rattle.rounds.specs.Outcomes.{Outcome, kept, broken, spent, refused, runOutcome, runTable}
+use Rattle.rounds_making.specs.Rounds.{tableFrom, zeros, firstAlarmWaits, stopsAt}
+use Rattle.rounds_making.specs.Outcomes.{Outcome, kept, broken, spent, refused, runOutcome, runTable}
+use Rattle.rounds_making.proofs.TableLengths.{run-length}
+use Rattle.rounds_making.proofs.Stopping.{Running, running-less, tests-fail, one-holds, Stops, stops-or-runs, ends-broken, ends-kept, ends-spent}
 use Rattle.rounds.specs.Meaning.{IsKept, IsBroken, IsSpent, IsRefused, HoldsLongest, enoughRounds, servingLimit, Meaning}
-use Rattle.rounds.proofs.Small.{run-length}
-use Rattle.rounds.proofs.Stopping.{Running, running-less, tests-fail, one-holds, Stops, stops-or-runs, ends-broken, ends-kept, ends-spent}
 use Rattle.rounds.proofs.Sums.{sum, sum-lt, sum-bound}
 use Rattle.rounds.proofs.Verdict.{Inv, inv-table, self-wait, no-self-wait, holds-longest}
 

@@ -15,8 +15,8 @@ use Rattle.rules.specs.Tables.{raiseCell, next}
 use Rattle.rules_panel.specs.Dramas.{AnyDuration, Drama}
 use Rattle.rules_panel.proofs.RampQuick.{rampQuick}
 use Rattle.rules_follow.specs.Following.{first, sumOver, Preference, agrees, ended, disjoint, holdsBack, goesBy, ready, chosen, act, run, final, Followed}
-use Rattle.rounds.specs.Rounds.{zeros}
-use Rattle.rounds.specs.Outcomes.{kept, runOutcome, runTable}
+use Rattle.rounds_making.specs.Rounds.{zeros}
+use Rattle.rounds_making.specs.Outcomes.{kept, runOutcome, runTable}
 use Rattle.rounds.specs.Meaning.{IsKept}
 use Rattle.rounds.proofs.Meanings.{run-means-bytes}
 

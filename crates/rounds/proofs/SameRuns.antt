@@ -9,9 +9,9 @@ use Rattle.plan.proofs.Ranges.{WellFormed}
 use Rattle.plan.proofs.Fewer.{FewerRows}
 use Rattle.rules.specs.Tables.{next}
 use Rattle.rules.proofs.Fewer.{fewer-width, same-next}
-use Rattle.rounds.specs.Rounds.{tableFrom, firstAlarmWaits, stopsAt, firstStop, roundsTo}
-use Rattle.rounds.specs.Outcomes.{ended, endTable, runOutcome, runTable}
-use Rattle.rounds.proofs.Small.{from-length}
+use Rattle.rounds_making.specs.Rounds.{tableFrom, firstAlarmWaits, stopsAt, firstStop, roundsTo}
+use Rattle.rounds_making.specs.Outcomes.{ended, endTable, runOutcome, runTable}
+use Rattle.rounds_making.proofs.TableLengths.{from-length}
 
 module _ {Q P : Plan} (f : FewerRows Q P) (g : FewerRows P Q) (wq : WellFormed Q) (wp : WellFormed P) (T : List ℕ) (sized : length T ≡ cells P) where
   pub same-table : (r : ℕ) → tableFrom Q T r ≡ tableFrom P T r

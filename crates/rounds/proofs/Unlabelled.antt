@@ -14,8 +14,9 @@ use Rattle.plan.proofs.Fewer.{FewerRows}
 use Rattle.plan.proofs.SameRows.{same-turned, same-fewer}
 use Rattle.plan.proofs.Forms.{without-same, without-accepted}
 use Rattle.rules.proofs.Fewer.{fewer-cells}
-use Rattle.rounds.specs.Rounds.{zeros}
-use Rattle.rounds.specs.Outcomes.{Outcome, runOutcome, runTable, checkOutcome, checkTable}
+use Rattle.rounds_making.specs.Rounds.{zeros}
+use Rattle.rounds_making.specs.Outcomes.{Outcome, runOutcome, runTable}
+use Rattle.rounds.specs.CheckOutcomes.{checkOutcome, checkTable}
 use Rattle.rounds.specs.AfterCheck.{AsUnlabelled}
 use Rattle.rounds.proofs.SameRuns.{same-outcome, same-run}
 

@@ -23,10 +23,10 @@ use Rattle.rules.proofs.Next.{Cell, IsNext, next-is}
 use Rattle.rules.proofs.FirstAlarm.{Quiet, first-cell, quiet-no-line, width-le}
 use Rattle.rules.proofs.Sound.{next-cases, Sound, sound-next, complete}
 use Rattle.rounds_tables.proofs.Comparing.{none-above, some-above}
-use Rattle.rounds.specs.Rounds.{tableFrom, zeros, firstAlarmWaits}
+use Rattle.rounds_making.specs.Rounds.{tableFrom, zeros, firstAlarmWaits}
+use Rattle.rounds_making.proofs.Stopping.{Running, running-less, tests-fail}
 use Rattle.rounds.specs.Meaning.{HoldsLongest}
 use Rattle.rounds.proofs.Bound.{Low, given-plain, low-next, high-next}
-use Rattle.rounds.proofs.Stopping.{Running, running-less, tests-fail}
 
 module _ (P : Plan) (wf : WellFormed P) where
   -- what holds of a table before each round

@@ -6,7 +6,8 @@ use Rattle.plan.specs.Moments.{Moments}
 use Rattle.plan.specs.Layout.{planOf}
 use Rattle.plan.specs.Forms.{withoutLabels}
 use Rattle.plan.specs.Refusal.{Accepted}
-use Rattle.rounds.specs.Outcomes.{Outcome, checkOutcome, checkTable}
+use Rattle.rounds_making.specs.Outcomes.{Outcome}
+use Rattle.rounds.specs.CheckOutcomes.{checkOutcome, checkTable}
 use Rattle.rounds.specs.Meaning.{IsSpent, servingLimit, Meaning}
 
 -- 22.7: it is the check of the plan without labels of points, to the cell

@@ -1,6 +1,4 @@
-pub mod Rounds
-pub mod Outcomes
+pub mod CheckOutcomes
 pub mod Meaning
 pub mod AfterCheck
-pub mod Runs
-pub mod Making
+pub mod FromZeros

@@ -9,7 +9,7 @@ use Rattle.rules.specs.Derivations.{Reaches, SelfWait}
 use Rattle.rules_panel.specs.Dramas.{AnyDuration}
 use Rattle.rules_panel.specs.Strategies.{Panel, NoPanel}
 use Rattle.rules_follow.specs.Following.{Preference, Followed}
-use Rattle.rounds.specs.Outcomes.{Outcome, kept, broken, spent, refused}
+use Rattle.rounds_making.specs.Outcomes.{Outcome, kept, broken, spent, refused}
 
 abbrev pub IsKept : Outcome → Type 0
 IsKept (kept r) = Unit {0}

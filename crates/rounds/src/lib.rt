@@ -1,6 +1,7 @@
 // Rounds and the check.
 mod running;
 
+pub use rounds_making::Answer;
 pub use running::check;
 pub use running::enough_rounds;
 pub use running::run;
@@ -8,11 +9,3 @@ pub use running::run_from_zeros;
 
 // With this limit no accepted plan is spent.
 pub const SERVING_LIMIT: u64 = 15571369985;
-
-// What the check answers; specs/Outcomes says what each stands for.
-pub enum Answer {
-    Kept(u64),
-    Broken(u64),
-    Spent(u64),
-    Refused(u32),
-}

@@ -2,9 +2,10 @@
 use crate::sets::bit;
 use crate::sets::lowest;
 use crate::sets::without;
-use plan::edge_from;
-use plan::edge_to;
+use plan::edge_from_at;
+use plan::edge_to_at;
 use plan::edges;
+use plan::edges_at;
 use plan::link_activation;
 use plan::link_finish;
 use plan::links;
@@ -34,8 +35,9 @@ fn depend_by_edges(plan: &[u8], sets: &mut [usize])
     ensures { λ _. ⌜ SameLength sets ⌝ }
 {
     let n = edges(plan);
+    let ends = edges_at(plan);
     for i in 0..n {
-        add(sets, edge_to(plan, i), edge_from(plan, i));
+        add(sets, edge_to_at(plan, ends, i), edge_from_at(plan, ends, i));
     }
 }
 

@@ -6,5 +6,6 @@ pub use concern::concerned;
 pub use concern::find_dependents;
 pub use concern::find_givers;
 pub use sets::bit;
+pub use sets::has;
 pub use sets::lowest;
 pub use sets::without;

@@ -2,7 +2,8 @@
 use mathlib.Core.Path.{_≡_}
 use mathlib.Core.Bool.{Bool}
 use mathlib.Core.List.{List}
-use Prim.Native.Nat.{ℕ, _≤_, _<_, _^_}
+use mathlib.Core.Logic.{_⊎_}
+use Prim.Native.Nat.{ℕ, _+_, _*_, _≤_, _<_, _^_}
 use lib.ListN.{length, getD, take}
 use Rattle.plan.specs.Label.{Marks}
 use Rattle.plan.specs.Plan.{Plan, cells}
@@ -48,3 +49,12 @@ pub record RoundLent (plan marks : List ℕ) (horizon : ℕ) (first second lists
   pub no-notes : NoNotes (planOf plan .points) noted
   pub set-below : set < 2 ^ planOf plan .points
   pub unaffected : Unaffected (planWith plan horizon) (take (cells (planOf plan)) first) set
+
+-- ---- for the comparison of two tables, w cells for each of n points
+-- outside the set of points they have the same cells
+pub record SameOutside (n w : ℕ) (A B : List ℕ) (set : ℕ) : Type 0 where
+  pub cell : (y t : ℕ) → y < n → t < w → (In set y → ⊥) → getD A (y * w + t) 0 ≡ getD B (y * w + t) 0
+
+-- k cells of point x are compared: all w, or none of a point outside the set
+pub record Compared (set x w k : ℕ) : Type 0 where
+  pub all-or-none : (k ≡ w) ⊎ ((k ≡ 0) × (In set x → ⊥))

@@ -6,5 +6,5 @@ pub mod ShapeGives
 mod ShapeRows
 pub mod ShapeWhole
 pub mod Laying
-mod Runs
+pub mod Runs
 pub mod Lending

@@ -1,17 +1,19 @@
 -- Answers put together: what is found stays found, and a loop that finds nothing has passed over all there is.
-use mathlib.Core.Path.{_≡_, sym, subst, _∙_}
+use mathlib.Core.Path.{_≡_, refl, sym, subst, _∙_}
 use mathlib.Core.Bool.{Bool, true, false}
 use mathlib.Core.Logic.{_⊎_, inl, inr}
 use mathlib.Core.List.{List}
-use Prim.Native.Nat.{ℕ, _+_, _≤_, _<_}
-use native.Mathlib.Decide.{ℕ-discrete}
+use Prim.Native.Nat.{ℕ, suc, _+_, _≤_, _<_}
+use native.Mathlib.Decide.{ℕ-discrete, decLe}
 use native.Mathlib.Omega.{arith}
+use lib.Bits.{and-le-r}
 use Rattle.plan.specs.Plan.{Plan}
 use Rattle.rules.specs.declared.Line.{Line}
 use Rattle.rules.specs.declared.Ground.{Ground}
 use Rattle.rules_ground.specs.declared.Found.{Found}
 use Rattle.rules_ground.specs.declared.Found.the-variants.{At, Nothing}
 use Rattle.rules_ground.specs.Grounds.{Grounds}
+use Rattle.rules_ground.specs.Places.{Within, SomeWithin, Next}
 use Rattle.rules_ground.specs.Searching.{isFound, Answers, Among}
 
 pub false-true : false ≡ true → ⊥
@@ -64,3 +66,24 @@ module _ {F : ℕ → Type 0} {lo hi : ℕ} where
 
   pub missed-all : {i : ℕ} → Missed F lo hi i → hi ≤ i → Among F lo hi → ⊥
   missed-all m h x = m .none (x .index) (x .from) (omega (arith, x .below)) (x .holds)
+
+-- no number below t within the mask has F, where the places within the mask are walked through up to t
+pub record Passed (F : ℕ → Type 0) (mask end t : ℕ) : Type 0 where
+  pub to : t ≤ end
+  pub within : t < end → Within mask t
+  pub none : (j : ℕ) → j < t → Within mask j → F j → ⊥
+
+module _ {F : ℕ → Type 0} {mask end : ℕ} where
+  pub passed-none : Passed F mask end 0
+  passed-none = record { to = omega arith; within = λ h. refl; none = λ j h w x. omega arith }
+
+  pub passed-more : {t r : ℕ} → Passed F mask end t → Next t mask end r → (F t → ⊥) → Passed F mask end r
+  passed-more {t} {r} p n no-one = record { to = n .to; within = n .within; none = λ j h w x. go j h w x (ℕ-discrete j t) (decLe (suc j) t) }
+    where
+      go : (j : ℕ) → j < r → Within mask j → F j → Dec (j ≡ t) → Dec (j < t) → ⊥
+      go j h w x (yes e) d = no-one (subst F e x)
+      go j h w x (no e) (yes d) = p .none j d w x
+      go j h w x (no e) (no d) = n .skips j (omega arith) h w
+
+  pub passed-all : {t : ℕ} → Passed F mask end t → end ≤ t → mask < end → SomeWithin F mask → ⊥
+  passed-all p h m x = p .none (x .index) (omega (arith, x .within, and-le-r (x .index) mask)) (x .within) (x .holds)

@@ -1,6 +1,8 @@
 mod RowLaws
-mod LineLaws
+mod NextLaws
+pub mod LineLaws
 mod AnswerLaws
+mod PlaceLaws
 mod ParentLaws
 mod SearchedLaws
 mod WholeLaws

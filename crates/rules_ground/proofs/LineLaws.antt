@@ -1,5 +1,5 @@
 -- Shifts and masks take a cell apart into its line, whose parts fit a listing's bytes.
-use mathlib.Core.Path.{_≡_, sym, ap, subst, _∙_}
+use mathlib.Core.Path.{_≡_, sym, ap, ap₂, subst, _∙_}
 use mathlib.Core.Bool.{true}
 use mathlib.Core.List.{List}
 use Prim.Native.Nat.{ℕ, _+_, _-_, _*_, _/_, _%_, _^_, _≤_, _<_}
@@ -23,13 +23,14 @@ use Rattle.rules.proofs.Cells.{at-range}
 use Rattle.rules_ground.specs.declared.Frame.{Frame}
 use Rattle.rules_ground.specs.Grounds.{holdsLine}
 use Rattle.rules_ground.specs.Frames.{Framed, Fitting, LineRead}
+use Rattle.rules_ground.specs.Searching.{cutPlace}
 
 -- the code's line of cell c, by shifts and masks
 abbrev shifted : Frame → ℕ → ℕ → Line
 shifted f c w = record { point = c / 2 ^ f .bits / 2 ^ f .links; set = bitAnd (c / 2 ^ f .bits) (f .sets); label = bitAnd c (f .labels); wait = w }
 
--- ---- whether a cell holds a line
-width-and : (k p c : ℕ) → bitAnd c (2 ^ k * 4 ^ p - 1) ≡ c % (2 ^ k * 4 ^ p)
+-- ---- whether a cell holds a line; the width is a power of 2
+pub width-and : (k p c : ℕ) → bitAnd c (2 ^ k * 4 ^ p - 1) ≡ c % (2 ^ k * 4 ^ p)
 width-and k p c =
     let e : 2 ^ (k + 2 * p) ≡ 2 ^ k * 4 ^ p = pow-add 2 k (2 * p) ∙ ap (λ (x : ℕ). 2 ^ k * x) (four p) in
     rw e at (and-mask c (k + 2 * p))
@@ -73,3 +74,7 @@ module _ (T : List ℕ) (c w : ℕ) (is-wait : w ≡ getD T c 0) (small : w < 42
     is-line = λ P q. line-is P T c f w q is-wait;
     fits = λ plan a q h. subst Fitting (sym (line-is (planOf plan) T c f w q is-wait)) (line-fits plan a h);
   }
+
+-- ---- the place of a line, its set and label cut by the masks
+pub cut-is : (P : Plan) (f : Frame) (l : Line) (q : ℕ) → Framed P f → q ≡ 4 ^ P .propositions → bitAnd (l .set) (f .sets) * q + bitAnd (l .label) (f .labels) ≡ cutPlace P l
+cut-is P f l q framed e = rw (framed .sets-is, framed .labels-is, e) (ap₂ (λ (s a : ℕ). s * 4 ^ P .propositions + a) (and-mask (l .set) (P .links)) (label-and (P .propositions) (l .label)))

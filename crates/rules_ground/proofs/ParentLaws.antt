@@ -1,11 +1,12 @@
--- Where a ground's parents lie: the first among the cells of its rule's first point, and a second, where the rule takes one, among those of its second.
-use mathlib.Core.Path.{_≡_, refl, sym, ap, subst, _∙_}
+-- Where a ground's parents lie, by their places: what the search passes over holds none.
+use mathlib.Core.Path.{_≡_, refl, sym, ap, ap₂, subst, _∙_}
 use mathlib.Core.Bool.{Bool, true, false, not}
 use mathlib.Core.List.{List}
-use Prim.Native.Nat.{ℕ, _+_, _*_, _^_, _≤_, _<_}
-use native.Mathlib.Nat.{zero-mod}
+use Prim.Native.Nat.{ℕ, _+_, _-_, _*_, _≤_, _<_, min}
+use native.Mathlib.Nat.{zero-mod, add-assoc}
 use native.Mathlib.Omega.{arith}
 use borrow.Author.Tests.{not-true, not-false}
+use lib.Bits.{bitAnd, bitOr}
 use lib.Dec.{T as Is, ltb}
 use lib.Ieee.Fits.{and-l, and-r, and-i, eq→eqb}
 use lib.ListN.{getD}
@@ -22,11 +23,14 @@ use Rattle.rules.specs.Rules.{fires, result, usesSecond}
 use Rattle.rules.specs.Derivations.{InPlan}
 use Rattle.rules.proofs.Deriving.{fires-facts}
 use Rattle.rules.proofs.InRange.{InRange, result-range}
-use Rattle.rules.proofs.Cells.{digit-lt, cell-at, at-range}
+use Rattle.rules.proofs.Cells.{cell-at, at-range}
 use Rattle.rules_apply.proofs.SameLines.{same-equal, equal-same}
 use Rattle.rules_fill.specs.Parents.{givenPoint, firstPoint, secondPoint}
 use Rattle.rules_ground.specs.Grounds.{holdsLine, Grounds}
-use Rattle.rules_ground.specs.Searching.{givesWith, Among, SecondAt, FirstAt, ByRule}
+use Rattle.rules_ground.specs.Places.{SomeWithin}
+use Rattle.rules_ground.specs.Rows.{placeOf, removedBits, upOf, downOf}
+use Rattle.rules_ground.specs.Searching.{cutPlace, givesWith, SecondAt, FirstAt, ByRule}
+use Rattle.rules_ground.proofs.PlaceLaws.{first-within, joined-second, second-joined, untouched, one-enough, one-waits, two-wait}
 
 -- ---- one pair of parents
 is : {b : Bool} → b ≡ true → Is b
@@ -62,14 +66,6 @@ module _ (P : Plan) (T : List ℕ) (k : Line) (r : Rule) (c d : ℕ) where
 
 -- ---- where the parents lie
 module _ (P : Plan) (T : List ℕ) where
-  -- the cells of point x
-  point-cells : (c x : ℕ) → c < cells P → lineAt P T c .point ≡ x → (x * width P ≤ c) × (c < x * width P + width P)
-  point-cells c x h e =
-      let l : Line = lineAt P T c in
-      let f : l .point * width P + (l .set * 4 ^ P .propositions + l .label) ≡ c = omega (arith, cell-at P T c) in
-      let g : l .set * 4 ^ P .propositions + l .label < width P = digit-lt _ _ _ _ (at-range P T c h .set-in) (at-range P T c h .label-in) in
-      rw (← e) (omega arith, omega arith)
-
   pub start-holds : Is (holdsLine P T 0)
   unfolding holdsLine
   start-holds = or-right (ltb 0 (getD T 0 0)) _ (eq→eqb (zero-mod (width P)))
@@ -77,9 +73,13 @@ module _ (P : Plan) (T : List ℕ) where
   pub holding : (c : ℕ) (b : Bool) → b ≡ holdsLine P T c → not b ≡ false → Is (holdsLine P T c)
   holding c b e t = is (sym e ∙ not-false b t)
 
+  -- a cell among the cells of point x, by its line's place
+  cell-there : (c x : ℕ) → lineAt P T c .point ≡ x → c ≡ x * width P + placeOf P (lineAt P T c)
+  cell-there c x e = rw (← e) (omega (arith, cell-at P T c))
+
   module _ (k : Line) (c : ℕ) where
-    pub empty-first : (r : Rule) (b : Bool) → b ≡ holdsLine P T c → not b ≡ true → FirstAt P T k r c → ⊥
-    empty-first r b e t f = is-not (sym e ∙ not-true b t) (f .ground .first-line)
+    pub empty-first : (r : Rule) (d : ℕ) (b : Bool) → b ≡ holdsLine P T c → not b ≡ true → SecondAt P T k r c d → ⊥
+    empty-first r d b e t g = is-not (sym e ∙ not-true b t) (g .first-line)
 
     -- a rule of one parent takes cell 0 as its second
     start-second : (r : Rule) → usesSecond r ≡ false → 0 < cells P → (d : ℕ) → SecondAt P T k r c d → SecondAt P T k r c 0
@@ -90,8 +90,8 @@ module _ (P : Plan) (T : List ℕ) where
     start-second (OwnLiteral j) t z d g = record { row = g .row; first-in = g .first-in; second-in = z; first-line = g .first-line; second-line = start-holds; fire = g .fire; gave = g .gave }
     start-second (LiteralRemoval j) t z d g = absurd (is-not t tt)
 
-    pub second-start : (r : Rule) → usesSecond r ≡ false → FirstAt P T k r c → Among (SecondAt P T k r c) 0 1
-    second-start r t f = record { index = 0; from = omega arith; below = omega arith; holds = start-second r t (omega (arith, f .ground .first-in)) (f .second) (f .ground) }
+    pub second-start : (r : Rule) → usesSecond r ≡ false → FirstAt P T k r c → SecondAt P T k r c 0
+    second-start r t f = start-second r t (omega (arith, f .ground .first-in)) (f .second) (f .ground)
 
     second-point : (r : Rule) (l m : Line) → usesSecond r ≡ true → Is (fires P r l m) → m .point ≡ secondPoint P r
     second-point (Propagation e) l m t f = absurd (is t)
@@ -101,22 +101,25 @@ module _ (P : Plan) (T : List ℕ) where
     second-point (OwnLiteral j) l m t f = absurd (is t)
     second-point (LiteralRemoval j) l m t f = fires-facts P (LiteralRemoval j) l m f .1
 
-    pub second-there : (r : Rule) → usesSecond r ≡ true → (y w : ℕ) → y ≡ secondPoint P r → w ≡ width P → FirstAt P T k r c → Among (SecondAt P T k r c) (y * w) (y * w + w)
-    second-there r t y w e q f =
-        let g = f .ground in
-        let h = point-cells (f .second) y (g .second-in) (second-point r _ _ t (g .fire) ∙ sym e) in
-        rw q (record { index = f .second; from = h .0; below = h .1; holds = g })
-
-    no-longer : (r : Rule) (l m : Line) → usesSecond r ≡ true → result P r l m .wait ≤ l .wait
-    no-longer (Propagation e) l m t = absurd (is t)
-    no-longer (LowerCase i) l m t = absurd (is t)
-    no-longer (UpperCase i) l m t = absurd (is t)
-    no-longer (LetterRemoval i) l m t = omega arith
-    no-longer (OwnLiteral j) l m t = absurd (is t)
-    no-longer (LiteralRemoval j) l m t = omega arith
-
+    -- rules 4 and 6 give the lesser of two waits
     pub short-first : (r : Rule) → usesSecond r ≡ true → (v : ℕ) → v ≡ getD T c 0 → v < k .wait → FirstAt P T k r c → ⊥
-    short-first r t v e h f = omega (arith, no-longer r (lineAt P T c) (lineAt P T (f .second)) t, ap (λ (z : Line). z .wait) (f .ground .gave))
+    short-first r t v e h f = omega (arith, two-wait P r t (lineAt P T c) (lineAt P T (f .second)), ap (λ (z : Line). z .wait) (f .ground .gave))
+
+    pub other-wait : (r : Rule) → usesSecond r ≡ true → (d a b w n : ℕ) → a ≡ getD T c 0 → b ≡ getD T d 0 → w ≡ downOf P r → n ≡ min a (b + w) → (n ≡ k .wait → ⊥) → SecondAt P T k r c d → ⊥
+    other-wait r t d a b w n ea eb ew en h g = h (en ∙ same ∙ sym (two-wait P r t (lineAt P T c) (lineAt P T d)) ∙ ap (λ (z : Line). z .wait) (g .gave))
+      where
+        same : min a (b + w) ≡ min (getD T c 0) (getD T d 0 + downOf P r)
+        same = rw (ea, eb, ew) refl
+
+    -- rules of one parent take their weight from its wait
+    pub light-first : (r : Rule) → usesSecond r ≡ false → (v u w : ℕ) → v ≡ getD T c 0 → u ≡ upOf P r → w ≡ downOf P r → v + w < u → FirstAt P T k r c → ⊥
+    light-first r t v u w ev eu ew h f = omega (arith, one-enough P r t (lineAt P T c) (lineAt P T (f .second)) (f .ground .fire))
+
+    pub other-first : (r : Rule) → usesSecond r ≡ false → (v u w : ℕ) → v ≡ getD T c 0 → u ≡ upOf P r → w ≡ downOf P r → (v + w - u ≡ k .wait → ⊥) → FirstAt P T k r c → ⊥
+    other-first r t v u w ev eu ew h f = h (same ∙ sym (one-waits P r t (lineAt P T c) (lineAt P T (f .second))) ∙ ap (λ (z : Line). z .wait) (f .ground .gave))
+      where
+        same : v + w - u ≡ getD T c 0 + downOf P r - upOf P r
+        same = rw (ev, eu, ew) refl
 
   module _ (k : Line) where
     first-point : (r : Rule) (l m : Line) → Is (fires P r l m) → result P r l m ≡ k → l .point ≡ firstPoint P r (k .point)
@@ -127,11 +130,41 @@ module _ (P : Plan) (T : List ℕ) where
     first-point (OwnLiteral j) l m f q = ap (λ (z : Line). z .point) q
     first-point (LiteralRemoval j) l m f q = ap (λ (z : Line). z .point) q
 
-    pub first-there : (r : Rule) (y w : ℕ) → y ≡ firstPoint P r (k .point) → w ≡ width P → ByRule r P T k → Among (FirstAt P T k r) (y * w) (y * w + w)
-    first-there r y w e q b =
-        let g = b .at-first .ground in
-        let h = point-cells (b .first) y (g .first-in) (first-point r _ _ (g .fire) (g .gave) ∙ sym e) in
-        rw q (record { index = b .first; from = h .0; below = h .1; holds = b .at-first })
+    -- where the first parent lies, and where the second
+    module _ (wf : WellFormed P) (r : Rule) (row : InPlan P r) (y w K m : ℕ) (first-is : y ≡ firstPoint P r (k .point)) (width-is : w ≡ width P) (place-is : K ≡ cutPlace P k) (removed-is : m ≡ removedBits P r) where
+      pub first-there : ByRule r P T k → SomeWithin (λ t. FirstAt P T k r (y * w + t)) (bitOr K m)
+      first-there b =
+          let g = b .at-first .ground in
+          let l = lineAt P T (b .first) in
+          let e : b .first ≡ y * w + placeOf P l = cell-there (b .first) y (first-point r _ _ (g .fire) (g .gave) ∙ sym first-is) ∙ ap (λ (z : ℕ). y * z + placeOf P l) (sym width-is) in
+          record {
+            index = placeOf P l;
+            within = rw (place-is, removed-is) (first-within P wf r row l (lineAt P T (b .at-first .second)) k (at-range P T _ (g .first-in)) (at-range P T _ (g .second-in)) (g .gave));
+            holds = subst (FirstAt P T k r) e (b .at-first);
+          }
+
+      -- the first parent's place, where it lies at place t
+      module _ (t : ℕ) (f : FirstAt P T k r (y * w + t)) where
+        place-there : placeOf P (lineAt P T (y * w + t)) ≡ t
+        place-there =
+            let g = f .ground in
+            omega (arith, cell-there (y * w + t) y (first-point r _ _ (g .fire) (g .gave) ∙ sym first-is), ap (λ (z : ℕ). y * z) width-is)
+
+        pub not-removed : usesSecond r ≡ true → bitAnd t m ≡ 0 → ⊥
+        not-removed u z =
+            let g = f .ground in
+            untouched P r u row _ _ (at-range P T _ (g .first-in)) (ap₂ bitAnd place-there (sym removed-is) ∙ z) (g .fire)
+
+        pub second-there : (z : ℕ) → usesSecond r ≡ true → z ≡ secondPoint P r → SomeWithin (λ v. SecondAt P T k r (y * w + t) (z * w + (K - bitAnd K (t - bitAnd t m)) + v)) (bitAnd K (t - bitAnd t m))
+        second-there z u q =
+            let g = f .ground in
+            let l = lineAt P T (y * w + t) in
+            let n = lineAt P T (f .second) in
+            let joined = second-joined P wf r u row l n k (at-range P T _ (g .first-in)) (at-range P T _ (g .second-in)) (g .gave) in
+            let rest : t - bitAnd t m ≡ placeOf P l - bitAnd (placeOf P l) (removedBits P r) = ap₂ (λ (a b : ℕ). a - bitAnd a b) (sym place-there) removed-is in
+            let s = joined-second K (t - bitAnd t m) (placeOf P n) (place-is ∙ joined ∙ ap (λ (a : ℕ). bitOr a (placeOf P n)) (sym rest)) in
+            let e : f .second ≡ z * w + placeOf P n = cell-there (f .second) z (second-point k (y * w + t) r _ _ u (g .fire) ∙ sym q) ∙ ap (λ (a : ℕ). z * a + placeOf P n) (sym width-is) in
+            record { index = bitAnd (placeOf P n) (t - bitAnd t m); within = s .0; holds = subst (SecondAt P T k r (y * w + t)) (e ∙ ap (λ (a : ℕ). z * w + a) (sym (s .1)) ∙ sym (add-assoc (z * w) _ _)) g }
 
     result-point : (r : Rule) (l m : Line) → result P r l m ≡ k → givenPoint P r (k .point) ≡ k .point
     result-point (Propagation e) l m q = ap (λ (z : Line). z .point) q
@@ -143,6 +176,11 @@ module _ (P : Plan) (T : List ℕ) where
 
     pub other-given : (r : Rule) (y : ℕ) → y ≡ givenPoint P r (k .point) → (y ≡ k .point → ⊥) → ByRule r P T k → ⊥
     other-given r y e h b = h (e ∙ result-point r _ _ (b .at-first .ground .gave))
+
+    pub other-observer : (j y : ℕ) → y ≡ P .observer j → (y ≡ k .point → ⊥) → ByRule (OwnLiteral j) P T k → ⊥
+    other-observer j y e h b =
+        let g = b .at-first .ground in
+        h (e ∙ sym (fires-facts P (OwnLiteral j) (lineAt P T (b .first)) (lineAt P T (b .at-first .second)) (g .fire) .0) ∙ ap (λ (z : Line). z .point) (g .gave))
 
     pub no-point : WellFormed P → P .points ≤ k .point → (g : Ground) → Grounds P T k g → ⊥
     no-point wf h g s =

@@ -1,3 +1,5 @@
 pub mod Grounds
 pub mod Frames
+pub mod Places
+pub mod Rows
 pub mod Searching

@@ -2,6 +2,7 @@
 mod finding;
 mod lines;
 mod parents;
+mod places;
 mod rows;
 
 pub use finding::find_ground;
@@ -24,17 +25,21 @@ pub struct Frame {
     pub labels: usize,
 }
 
-// The line that is looked for, with the plan's horizon, its frame and the cells of a point.
+// The line that is looked for and its place among its point's cells, with the plan's horizon, its frame and the cells of a point.
 pub struct Search {
     pub horizon: u64,
     pub frame: Frame,
     pub width: usize,
+    pub place: usize,
     pub line: Line,
 }
 
-// The points of the line that a rule gives and of its parents.
-pub struct RulePoints {
-    pub given: usize,
+// A rule's row: the points of its parents, the bits that it removes from its first parent's place, and the weight, up less down.
+// Rules of one parent take the weight from its wait; rules 4 and 6 have no up and add down to their second parent's wait.
+pub struct Row {
     pub first: usize,
     pub second: usize,
+    pub removed: usize,
+    pub up: u64,
+    pub down: u64,
 }

@@ -1,6 +1,6 @@
 pub mod Counting
 mod Noting
 mod Going
-mod Passing
+pub mod Passing
 mod Removing
 mod Rests

@@ -5,3 +5,4 @@ mod notes;
 pub use listed::clear_raised;
 pub use listed::propagate_raised;
 pub use listed::remove_pairs;
+pub use notes::raise;

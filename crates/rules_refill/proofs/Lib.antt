@@ -1,5 +1,6 @@
 mod Covering
 mod Refilling
+mod Removals
 mod EdgeWalk
 mod HorizonIdle
 mod RefillWhole

@@ -11,13 +11,14 @@ use borrow.Author.Tests.{eq-eqb}
 use Rattle.plan.specs.Horizons.{planWith}
 use Rattle.plan.proofs.Ranges.{accepted-bounded}
 use Rattle.rules_fill.specs.Steps.{when}
-use Rattle.rules_fill.specs.Shapes.{fillEdges, fillHorizon, fillLinks, fillPropositions}
+use Rattle.rules_fill.specs.Shapes.{fillEdges, fillHorizon, fillLinks}
 use Rattle.rules_fill.specs.Parts.{nextPart}
 use Rattle.rules_fill.proofs.ShapeLaws.{row-in}
 use Rattle.rules_fill.proofs.ShapeWhole.{fill-by}
 use Rattle.rules_listed.specs.Places.{countBelow}
 use Rattle.rules_listed.specs.Notes.{raisedAt, Noted}
 use Rattle.rules_refill.specs.Lent.{RefillLent, PartLent}
+use Rattle.rules_refill.specs.Removals.{fillRemovals}
 use Rattle.rules_refill.proofs.Refilling.{lent-well-formed}
 
 none-below : (f : ℕ → Bool) (n : ℕ) → ((i : ℕ) → i < n → f i ≡ false) → 0 ≡ countBelow f n
@@ -45,7 +46,8 @@ module _ {bs M : List ℕ} {horizon : ℕ} {F L counts rows : List ℕ} {w mask 
         all-noted = λ c h r. absurd (rw (not-raised c h) at r);
       }
 
-  pub refilled-by : (D E G H : List ℕ) → D ≡ fillEdges (planWith bs horizon) F x B → E ≡ when (eqb x 0) (fillHorizon (planWith bs horizon) F) D → G ≡ fillLinks (planWith bs horizon) F x E → H ≡ fillPropositions (planWith bs horizon) F x G → H ≡ nextPart (planWith bs horizon) x F B
-  refilled-by D E G H =
+  pub refilled-by : (D E G : List ℕ) → D ≡ fillEdges (planWith bs horizon) F x B → E ≡ when (eqb x 0) (fillHorizon (planWith bs horizon) F) D → G ≡ fillRemovals (planWith bs horizon) F x E → G ≡ nextPart (planWith bs horizon) x F B
+  unfolding fillRemovals
+  refilled-by D E G edged far removed =
       let copied : B ≡ take w (drop (x * w) F) ++ drop w B = sym (take-append-drop w B) ∙ ap (λ (T : List ℕ). T ++ drop w B) (own .cells-are) in
-      fill-by (planWith bs horizon) (lent-well-formed lent) (accepted-bounded bs (lent .accepted) .propositions-in) F (lent .long-first) x (lent .point-in) w B B D E G H (lent .numbers .width-is) copied
+      fill-by (planWith bs horizon) (lent-well-formed lent) (accepted-bounded bs (lent .accepted) .propositions-in) F (lent .long-first) x (lent .point-in) w B B D E (fillLinks (planWith bs horizon) F x E) G (lent .numbers .width-is) copied edged far refl removed

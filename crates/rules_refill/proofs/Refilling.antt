@@ -19,7 +19,8 @@ use Rattle.rules.specs.Derivations.{InPlan}
 use Rattle.rules_fill.specs.declared.shapes.Propagator.{Propagator}
 use Rattle.rules_fill.specs.declared.shapes.Remover.{Remover}
 use Rattle.rules_fill.specs.Shapes.{digitMask, propagateIn, removeIn, clearIn, edgeIn, lowerIn, upperIn, letterIn, ownLiteralIn, literalIn}
-use Rattle.rules_fill.specs.Cells.{PropagatorLent}
+use Rattle.rules_fill.specs.Cells.{Run, PropagatorLent}
+use Rattle.rules_fill.specs.Parts.{AtMost}
 use Rattle.rules_fill.specs.Rows.{EdgeRow, LowerRow, UpperRow, LetterRow, LiteralRow}
 use Rattle.rules_fill.proofs.ShapeGives.{letter-gives, own-gives, literal-gives}
 use Rattle.rules_fill.proofs.ShapeLaws.{row-in, all-in-by, width-pos, propagate-by, remove-by, clear-by}
@@ -30,6 +31,7 @@ use Rattle.rules_listed.specs.Listed.{RemoveLent}
 use Rattle.rules_listed.specs.Rests.{PropagateRest, RemoveRest, ClearRest}
 use Rattle.rules_listed.specs.Notes.{Noted}
 use Rattle.rules_refill.specs.Lent.{RefillLent, RowOf}
+use Rattle.rules_fill.proofs.Runs.{link-run, digit-run}
 use Rattle.rules_refill.proofs.Covering.{one-covered, two-covered, edge-row-of, lower-row-of, upper-row-of, propagate-rest, clear-rest, remove-rest}
 
 -- a row of an edge that two plans have in common
@@ -43,6 +45,10 @@ edge-again k same =
       down-is = k .down-is ∙ ap (λ (c : Constraint). c .down) same;
       down-small = k .down-small;
     }
+
+-- what the removal of a row asks for
+abbrev pub RemovalLent : ℕ → List ℕ → List ℕ → List ℕ → ℕ → List ℕ → List ℕ → ℕ → Remover → Type 0
+RemovalLent w F L counts x B N count by = RemoveLent F w x by × ((Run (by .low) (by .mask) w × AtMost 4000000000 F) × (RemoveRest w F L counts x by B × Noted w F (x * w) B N count))
 
 module _ {bs M : List ℕ} {horizon : ℕ} {F L counts rows : List ℕ} {w mask x : ℕ} (lent : RefillLent bs M horizon F L counts rows w mask x) where
   pub lent-well-formed : WellFormed (planWith bs horizon)
@@ -134,20 +140,26 @@ module _ {bs M : List ℕ} {horizon : ℕ} {F L counts rows : List ℕ} {w mask 
           add-small = small;
         }
 
-    pub letter-lends : (i : ℕ) → i < planOf bs .links → (by : Remover) → LetterRow (planOf bs) i by → RemoveLent F w x by × (RemoveRest w F L counts x by B × Noted w F (x * w) B N count)
+    pub letter-lends : (i : ℕ) → i < planOf bs .links → (by : Remover) → LetterRow (planOf bs) i by → RemovalLent w F L counts x B N count by
     letter-lends i h by k =
         let P = planWith bs horizon in
         let o = lent-well-formed .activation-in i h in (
           remove-lends _ by (k .other-is) o (k .add-small),
-          (remove-rest P F L counts x w (lent .numbers .width-is) B (noted .no-lower) (lent .point-in) (lent .lists-are) _ _ _ by (k .other-is) (k .mask-is) (k .add-is) o (λ t u a b. two-covered P F L counts x (lent .point-in) (lent .lists-are) (LetterRemoval i) h (lent .point-in) o a b (letter-gives P F x i t u)), noted),
+          (
+            (rw (k .low-is, k .mask-is, lent .numbers .width-is) (link-run P i h), lent .bound),
+            (remove-rest P F L counts x w (lent .numbers .width-is) B (noted .no-lower) (lent .point-in) (lent .lists-are) _ _ _ by (k .other-is) (k .mask-is) (k .add-is) o (λ t u a b. two-covered P F L counts x (lent .point-in) (lent .lists-are) (LetterRemoval i) h (lent .point-in) o a b (letter-gives P F x i t u)), noted),
+          ),
         )
 
-    pub literal-lends : (j : ℕ) → j < planOf bs .propositions → (by : Remover) → LiteralRow (planOf bs) j by → RemoveLent F w x by × (RemoveRest w F L counts x by B × Noted w F (x * w) B N count)
+    pub literal-lends : (j : ℕ) → j < planOf bs .propositions → (by : Remover) → LiteralRow (planOf bs) j by → RemovalLent w F L counts x B N count by
     literal-lends j h by k =
         let P = planWith bs horizon in
         let o = lent-well-formed .observer-in j h .1 in (
           remove-lends _ by (k .other-is) o (omega (arith, k .add-is)),
-          (remove-rest P F L counts x w (lent .numbers .width-is) B (noted .no-lower) (lent .point-in) (lent .lists-are) _ _ _ by (k .other-is) (k .mask-is) (k .add-is) o (λ t u a b. two-covered P F L counts x (lent .point-in) (lent .lists-are) (LiteralRemoval j) h (lent .point-in) o a b (literal-gives P F x j h t u)), noted),
+          (
+            (rw (k .low-is, k .mask-is, lent .numbers .width-is) (digit-run P j h), lent .bound),
+            (remove-rest P F L counts x w (lent .numbers .width-is) B (noted .no-lower) (lent .point-in) (lent .lists-are) _ _ _ by (k .other-is) (k .mask-is) (k .add-is) o (λ t u a b. two-covered P F L counts x (lent .point-in) (lent .lists-are) (LiteralRemoval j) h (lent .point-in) o a b (literal-gives P F x j h t u)), noted),
+          ),
         )
 
     pub clear-lends : (j : ℕ) → j < planOf bs .propositions → planOf bs .observer j ≡ x → (n m : ℕ) → n ≡ getD counts (2 * x) 0 → m ≡ digitMask j → (Places L (2 * x * w) n w × (w ≤ 65536)) × (ClearRest w F L n m x B × Noted w F (x * w) B N count)

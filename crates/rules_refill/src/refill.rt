@@ -3,11 +3,12 @@ use plan::edges;
 use plan::links;
 use plan::points;
 use plan::propositions;
+use rules_dense::remove_row;
 use rules_fill::Propagator;
+use rules_fill::Remover;
 use rules_fill::digit_mask;
 use rules_listed::clear_raised;
 use rules_listed::propagate_raised;
-use rules_listed::remove_pairs;
 use rules_rows::edge_row;
 use rules_rows::first_edge;
 use rules_rows::horizon_row;
@@ -22,17 +23,20 @@ use rules_rows::observer;
 use rules_rows::upper_bound_row;
 use rules_rows::upper_row;
 ghost use mathlib.Core.Path.{_≡_};
-ghost use Prim.Native.Nat.{_*_, _<_};
+ghost use Prim.Native.Nat.{_+_, _*_, _<_};
 ghost use lib.Dec.{eqb};
 ghost use Rattle.plan.specs.Moments.{before, after, SameLength};
 ghost use Rattle.plan.specs.Layout.{planOf};
 ghost use Rattle.plan.specs.Horizons.{planWith};
+ghost use Rattle.plan.specs.Refusal.{Accepted};
 ghost use Rattle.rules.specs.declared.Edge.the-variants as edge;
 ghost use Rattle.rules_fill.specs.Steps as steps;
 ghost use Rattle.rules_fill.specs.Shapes as shapes;
 ghost use Rattle.rules_fill.specs.Parts.{nextPart};
+ghost use Rattle.rules_rows.specs.RowsRead.{RowsRead};
 ghost use Rattle.rules_listed.specs.Notes.{Noted};
 ghost use Rattle.rules_refill.specs.Lent.{RefillLent, PartLent, RowOf, NoneOver};
+ghost use Rattle.rules_refill.specs.Removals as removals;
 
 // Rules 1 to 3 of a row of point x.
 fn propagate_row(
@@ -593,8 +597,8 @@ fn finish_in(
     )
 }
 
-// Rule 4 of link i.
-fn letter_in(
+// Rules 2 and 3 of link i, and rule 1 of its two edges.
+fn link_in(
     plan: &[u8],
     marks: &[u8; 256],
     horizon: u64,
@@ -613,35 +617,7 @@ fn letter_in(
     requires { ⌜ RefillLent (now plan) (now marks) horizon (now first) (now lists) (now counts) (now rows) width mask x ⌝ }
     requires { ⌜ Noted width (now first) (x * width) (now part) (now notes) count ⌝ }
     requires { ⌜ i < planOf (now plan) .links ⌝ }
-    ensures { λ _. ⌜ after part ≡ shapes.letterIn (planWith (before plan) horizon) (before first) x i (before part) ⌝ }
-    ensures { λ r. ⌜ Noted width (before first) (x * width) (after part) (after notes) r ⌝ }
-    ensures { λ _. ⌜ SameLength part × SameLength notes ⌝ }
-{
-    let by = letter_row(plan, rows, i);
-    remove_pairs(first, lists, counts, part, notes, count, width, x, by)
-}
-
-// Rules 2 to 4 of link i, and rule 1 of its two edges.
-fn fill_link(
-    plan: &[u8],
-    marks: &[u8; 256],
-    horizon: u64,
-    first: &[u32],
-    lists: &[u16],
-    counts: &[usize],
-    rows: &[u16],
-    part: &mut [u32],
-    notes: &mut [u16],
-    count: usize,
-    width: usize,
-    mask: usize,
-    x: usize,
-    i: usize,
-) -> usize
-    requires { ⌜ RefillLent (now plan) (now marks) horizon (now first) (now lists) (now counts) (now rows) width mask x ⌝ }
-    requires { ⌜ Noted width (now first) (x * width) (now part) (now notes) count ⌝ }
-    requires { ⌜ i < planOf (now plan) .links ⌝ }
-    ensures { λ _. ⌜ after part ≡ shapes.fillLink (planWith (before plan) horizon) (before first) x i (before part) ⌝ }
+    ensures { λ _. ⌜ after part ≡ removals.linkIn (planWith (before plan) horizon) (before first) x i (before part) ⌝ }
     ensures { λ r. ⌜ Noted width (before first) (x * width) (after part) (after notes) r ⌝ }
     ensures { λ _. ⌜ SameLength part × SameLength notes ⌝ }
 {
@@ -661,7 +637,7 @@ fn fill_link(
         x,
         i,
     );
-    let finished = finish_in(
+    finish_in(
         plan,
         marks,
         horizon,
@@ -676,67 +652,7 @@ fn fill_link(
         mask,
         x,
         i,
-    );
-    letter_in(
-        plan,
-        marks,
-        horizon,
-        first,
-        lists,
-        counts,
-        rows,
-        part,
-        notes,
-        finished,
-        width,
-        mask,
-        x,
-        i,
     )
-}
-
-fn fill_links(
-    plan: &[u8],
-    marks: &[u8; 256],
-    horizon: u64,
-    first: &[u32],
-    lists: &[u16],
-    counts: &[usize],
-    rows: &[u16],
-    part: &mut [u32],
-    notes: &mut [u16],
-    count: usize,
-    width: usize,
-    mask: usize,
-    x: usize,
-) -> usize
-    requires { ⌜ RefillLent (now plan) (now marks) horizon (now first) (now lists) (now counts) (now rows) width mask x ⌝ }
-    requires { ⌜ Noted width (now first) (x * width) (now part) (now notes) count ⌝ }
-    ensures { λ _. ⌜ after part ≡ shapes.fillLinks (planWith (before plan) horizon) (before first) x (before part) ⌝ }
-    ensures { λ r. ⌜ Noted width (before first) (x * width) (after part) (after notes) r ⌝ }
-    ensures { λ _. ⌜ SameLength part × SameLength notes ⌝ }
-{
-    let n = links(plan);
-    let mut noted = count;
-    for i in 0..n {
-        noted = fill_link(
-            plan,
-            marks,
-            horizon,
-            first,
-            lists,
-            counts,
-            rows,
-            part,
-            notes,
-            noted,
-            width,
-            mask,
-            x,
-            i,
-        );
-    }
-    noted
 }
 
 // Rule 5 of proposition j, if its observing point is x.
@@ -770,8 +686,8 @@ fn own_literal_in(
     clear_raised(first, lists, n, part, notes, count, width, x, digit_mask(j))
 }
 
-// Rule 6 of proposition j.
-fn literal_in(
+// The rules of one parent of a link r, or of a proposition r less the links: numbered so, both have one row of rule 4 or 6.
+fn single_in(
     plan: &[u8],
     marks: &[u8; 256],
     horizon: u64,
@@ -785,44 +701,35 @@ fn literal_in(
     width: usize,
     mask: usize,
     x: usize,
-    j: usize,
+    r: usize,
 ) -> usize
     requires { ⌜ RefillLent (now plan) (now marks) horizon (now first) (now lists) (now counts) (now rows) width mask x ⌝ }
     requires { ⌜ Noted width (now first) (x * width) (now part) (now notes) count ⌝ }
-    requires { ⌜ j < planOf (now plan) .propositions ⌝ }
-    ensures { λ _. ⌜ after part ≡ shapes.literalIn (planWith (before plan) horizon) (before first) x j (before part) ⌝ }
-    ensures { λ r. ⌜ Noted width (before first) (x * width) (after part) (after notes) r ⌝ }
+    requires { ⌜ r < planOf (now plan) .links + planOf (now plan) .propositions ⌝ }
+    ensures { λ _. ⌜ after part ≡ removals.singleIn (planWith (before plan) horizon) (before first) x r (before part) ⌝ }
+    ensures { λ n. ⌜ Noted width (before first) (x * width) (after part) (after notes) n ⌝ }
     ensures { λ _. ⌜ SameLength part × SameLength notes ⌝ }
 {
-    let by = literal_row(plan, rows, j);
-    remove_pairs(first, lists, counts, part, notes, count, width, x, by)
-}
-
-// Rules 5 and 6 of proposition j.
-fn fill_proposition(
-    plan: &[u8],
-    marks: &[u8; 256],
-    horizon: u64,
-    first: &[u32],
-    lists: &[u16],
-    counts: &[usize],
-    rows: &[u16],
-    part: &mut [u32],
-    notes: &mut [u16],
-    count: usize,
-    width: usize,
-    mask: usize,
-    x: usize,
-    j: usize,
-) -> usize
-    requires { ⌜ RefillLent (now plan) (now marks) horizon (now first) (now lists) (now counts) (now rows) width mask x ⌝ }
-    requires { ⌜ Noted width (now first) (x * width) (now part) (now notes) count ⌝ }
-    requires { ⌜ j < planOf (now plan) .propositions ⌝ }
-    ensures { λ _. ⌜ after part ≡ shapes.fillProposition (planWith (before plan) horizon) (before first) x j (before part) ⌝ }
-    ensures { λ r. ⌜ Noted width (before first) (x * width) (after part) (after notes) r ⌝ }
-    ensures { λ _. ⌜ SameLength part × SameLength notes ⌝ }
-{
-    let noted = own_literal_in(
+    let k = links(plan);
+    if r < k {
+        return link_in(
+            plan,
+            marks,
+            horizon,
+            first,
+            lists,
+            counts,
+            rows,
+            part,
+            notes,
+            count,
+            width,
+            mask,
+            x,
+            r,
+        );
+    }
+    own_literal_in(
         plan,
         marks,
         horizon,
@@ -836,27 +743,56 @@ fn fill_proposition(
         width,
         mask,
         x,
-        j,
-    );
-    literal_in(
-        plan,
-        marks,
-        horizon,
-        first,
-        lists,
-        counts,
-        rows,
-        part,
-        notes,
-        noted,
-        width,
-        mask,
-        x,
-        j,
+        r - k,
     )
 }
 
-fn fill_propositions(
+// The row of rule 4 of link r, or of rule 6 of proposition r less the links.
+fn removal_row(plan: &[u8], rows: &[u16], r: usize) -> Remover
+    requires { ⌜ Accepted (now plan) × RowsRead (planOf (now plan)) (now rows) ⌝ }
+    requires { ⌜ r < planOf (now plan) .links + planOf (now plan) .propositions ⌝ }
+    ensures { λ by. ⌜ removals.RemovalRow (planOf (before plan)) r by ⌝ }
+{
+    let k = links(plan);
+    if r < k {
+        return letter_row(plan, rows, r);
+    }
+    literal_row(plan, rows, r - k)
+}
+
+// Removal r at point x. Where its starting line is its only line, none has a bit to remove.
+fn removal_in(
+    plan: &[u8],
+    marks: &[u8; 256],
+    horizon: u64,
+    first: &[u32],
+    lists: &[u16],
+    counts: &[usize],
+    rows: &[u16],
+    part: &mut [u32],
+    notes: &mut [u16],
+    count: usize,
+    width: usize,
+    mask: usize,
+    x: usize,
+    r: usize,
+) -> usize
+    requires { ⌜ RefillLent (now plan) (now marks) horizon (now first) (now lists) (now counts) (now rows) width mask x ⌝ }
+    requires { ⌜ Noted width (now first) (x * width) (now part) (now notes) count ⌝ }
+    requires { ⌜ r < planOf (now plan) .links + planOf (now plan) .propositions ⌝ }
+    ensures { λ _. ⌜ after part ≡ removals.removalIn (planWith (before plan) horizon) (before first) x r (before part) ⌝ }
+    ensures { λ n. ⌜ Noted width (before first) (x * width) (after part) (after notes) n ⌝ }
+    ensures { λ _. ⌜ SameLength part × SameLength notes ⌝ }
+{
+    if counts[2 * x + 1] < 2 {
+        return count;
+    }
+    let by = removal_row(plan, rows, r);
+    remove_row(first, lists, counts, part, notes, count, width, x, by)
+}
+
+// Rules 2 to 6 of the links, then of the propositions.
+fn fill_removals(
     plan: &[u8],
     marks: &[u8; 256],
     horizon: u64,
@@ -873,14 +809,14 @@ fn fill_propositions(
 ) -> usize
     requires { ⌜ RefillLent (now plan) (now marks) horizon (now first) (now lists) (now counts) (now rows) width mask x ⌝ }
     requires { ⌜ Noted width (now first) (x * width) (now part) (now notes) count ⌝ }
-    ensures { λ _. ⌜ after part ≡ shapes.fillPropositions (planWith (before plan) horizon) (before first) x (before part) ⌝ }
+    ensures { λ _. ⌜ after part ≡ removals.fillRemovals (planWith (before plan) horizon) (before first) x (before part) ⌝ }
     ensures { λ r. ⌜ Noted width (before first) (x * width) (after part) (after notes) r ⌝ }
     ensures { λ _. ⌜ SameLength part × SameLength notes ⌝ }
 {
-    let n = propositions(plan);
+    let n = links(plan) + propositions(plan);
     let mut noted = count;
-    for j in 0..n {
-        noted = fill_proposition(
+    for r in 0..n {
+        let single = single_in(
             plan,
             marks,
             horizon,
@@ -894,7 +830,23 @@ fn fill_propositions(
             width,
             mask,
             x,
-            j,
+            r,
+        );
+        noted = removal_in(
+            plan,
+            marks,
+            horizon,
+            first,
+            lists,
+            counts,
+            rows,
+            part,
+            notes,
+            single,
+            width,
+            mask,
+            x,
+            r,
         );
     }
     noted
@@ -955,7 +907,7 @@ pub fn refill_point(
         x,
         over,
     );
-    let linked = fill_links(
+    fill_removals(
         plan,
         marks,
         horizon,
@@ -966,21 +918,6 @@ pub fn refill_point(
         part,
         notes,
         far,
-        width,
-        mask,
-        x,
-    );
-    fill_propositions(
-        plan,
-        marks,
-        horizon,
-        first,
-        lists,
-        counts,
-        rows,
-        part,
-        notes,
-        linked,
         width,
         mask,
         x,

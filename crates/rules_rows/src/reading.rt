@@ -1,10 +1,12 @@
 // The rows of a plan, read from its bytes into a lent list.
-use plan::edge_down;
-use plan::edge_from;
-use plan::edge_label;
-use plan::edge_to;
-use plan::edge_up;
+use plan::edge_data_at;
+use plan::edge_down_at;
+use plan::edge_from_at;
+use plan::edge_label_at;
+use plan::edge_to_at;
+use plan::edge_up_at;
 use plan::edges;
+use plan::edges_at;
 use plan::link_activation;
 use plan::link_finish;
 use plan::link_least;
@@ -18,7 +20,7 @@ ghost use mathlib.Core.Path.{_≡_};
 ghost use Prim.Native.Nat.{_+_, _<_, _≤_};
 ghost use lib.ListN.{length, set};
 ghost use Rattle.plan.specs.Moments.{before, after, SameLength};
-ghost use Rattle.plan.specs.Layout.{planOf};
+ghost use Rattle.plan.specs.Layout.{planOf, endsAt, edgeRow, EdgesAt};
 ghost use Rattle.plan.specs.Refusal.{Accepted};
 ghost use Rattle.rules_rows.specs.RowsRead.{RowsRead, EdgesFrom, headsCleared, observersPut, fourPut, linkPut, linksPut, edgePut, edgeLinked};
 
@@ -90,25 +92,27 @@ fn read_links(plan: &[u8], rows: &mut [u16])
     }
 }
 
-fn read_edge(plan: &[u8], rows: &mut [u16], i: usize)
+fn read_edge(plan: &[u8], rows: &mut [u16], ends: usize, bytes: usize, i: usize)
     requires { ⌜ (i < 128) × (692 ≤ length (now rows)) ⌝ }
+    requires { ⌜ EdgesAt (now plan) ends bytes ⌝ }
     ensures { λ _. ⌜ after rows ≡ edgePut (planOf (before plan)) i (before rows) ⌝ }
     ensures { λ _. ⌜ SameLength rows ⌝ }
 {
-    let to = edge_to(plan, i);
-    let label = edge_label(plan, i);
-    let up = edge_up(plan, i) as usize;
-    let down = edge_down(plan, i) as usize;
+    let to = edge_to_at(plan, ends, i);
+    let label = edge_label_at(plan, bytes, i);
+    let up = edge_up_at(plan, bytes, i) as usize;
+    let down = edge_down_at(plan, bytes, i) as usize;
     put_four(rows, 52 + 5 * i, to, label, up, down);
 }
 
 // Puts edge i before those of its point that are linked.
-fn link_edge(plan: &[u8], rows: &mut [u16], i: usize)
+fn link_edge(plan: &[u8], rows: &mut [u16], ends: usize, i: usize)
     requires { ⌜ Accepted (now plan) × (i < planOf (now plan) .edges) × (692 ≤ length (now rows)) ⌝ }
+    requires { ⌜ (ends ≡ endsAt (now plan) (edgeRow (now plan) 0)) × (ends < 2048) ⌝ }
     ensures { λ _. ⌜ after rows ≡ edgeLinked (planOf (before plan)) i (before rows) ⌝ }
     ensures { λ _. ⌜ SameLength rows ⌝ }
 {
-    let x = edge_from(plan, i);
+    let x = edge_from_at(plan, ends, i);
     let next = widen_word(rows[x]);
     put(rows, 56 + 5 * i, next);
     put(rows, x, i);
@@ -121,10 +125,12 @@ fn read_edges(plan: &[u8], rows: &mut [u16])
     ensures { λ _. ⌜ SameLength rows ⌝ }
 {
     let mut i = edges(plan);
+    let ends = edges_at(plan);
+    let bytes = edge_data_at(plan);
     while 0 < i {
         i -= 1;
-        read_edge(plan, rows, i);
-        link_edge(plan, rows, i);
+        read_edge(plan, rows, ends, bytes, i);
+        link_edge(plan, rows, ends, i);
     }
 }
 

@@ -1,19 +1,21 @@
 //! Times the check over the C interface, beside other checkers, on fixed
-//! plans; and beside the check the call that finds the rows that break a plan.
-//! Not part of the gate.
+//! plans; and beside the check the calls that explain a broken plan: the
+//! listing, and the rows that break it. Not part of the gate.
 //!
 //! All checkers take turns in one run, so that what else the machine does
 //! falls on all of them alike; the shortest time of each counts. With
 //! `SULGRACH_EARLIER_LIB_DIR` an earlier library is one of them (README.md).
 
+use std::cell::RefCell;
 use std::fs;
 use std::path::Path;
 use std::time::{Duration, Instant};
+use sulgrach_tests::compare::LONGEST_LISTING;
 use sulgrach_tests::generate::rows::{kept, with_contradictions};
 use sulgrach_tests::generate::{cycle_among, plan_before_lengthening, slow_cycle, typical, Class, Random};
 use sulgrach_tests::library;
 use sulgrach_tests::port;
-use sulgrach_tests::second::{self, Verdict, EVERY_PLAN, MOST_EDGES};
+use sulgrach_tests::second::{self, Verdict, EVERY_PLAN, MOST_CELLS, MOST_EDGES};
 
 /// Code and rounds of a check; the tables are left as the check leaves them.
 type Check = fn(plan: &[u8], first: &mut [u32], second: &mut [u32], limit: u64) -> (u32, u64);
@@ -36,12 +38,29 @@ const CHECKERS: &[Checker] = &[
     Checker { name: "second", check: check_second, most_rounds: 20_000, agrees: true },
 ];
 
-/// The call that finds the rows that break a plan, after the check that it is
-/// measured against. In place of rounds it has the number of rows that remain.
-const BREAKING_ROWS: &[Checker] = &[
-    Checker { name: "check", check: check_library, most_rounds: EVERY_PLAN, agrees: true },
-    Checker { name: "breaking rows", check: breaking_rows, most_rounds: EVERY_PLAN, agrees: false },
-];
+/// The check that a call that explains a broken plan is measured against.
+const CHECK: Checker = Checker { name: "check", check: check_library, most_rounds: EVERY_PLAN, agrees: true };
+
+/// The listing; in place of rounds it has the number of its lines.
+const LISTING: Checker = Checker { name: "listing", check: list, most_rounds: EVERY_PLAN, agrees: false };
+
+/// The call that finds the rows that break a plan; in place of rounds it has
+/// the number of rows that remain.
+const BREAKING_ROWS: Checker =
+    Checker { name: "breaking rows", check: breaking_rows, most_rounds: EVERY_PLAN, agrees: false };
+
+thread_local! {
+    /// The numbers and the output lent to the listing, allotted once.
+    static LISTING_ROOM: RefCell<(Vec<u16>, Vec<u8>)> =
+        RefCell::new((vec![0; MOST_CELLS], vec![0; LONGEST_LISTING]));
+}
+
+fn list(plan: &[u8], first: &mut [u32], second: &mut [u32], limit: u64) -> (u32, u64) {
+    let mut numbers = [0; 2];
+    let code = LISTING_ROOM
+        .with_borrow_mut(|(index, out)| library::list(plan, first, second, limit, index, out, &mut numbers));
+    (code, (numbers[1].max(2) - 2) / 14)
+}
 
 fn breaking_rows(plan: &[u8], first: &mut [u32], second: &mut [u32], _limit: u64) -> (u32, u64) {
     let mut remaining = [0];
@@ -131,7 +150,7 @@ fn main() {
         (1..=10).map(|number| Case::new(format!("c{number}"), bench_plan(number), EVERY_PLAN)),
     );
     growth();
-    breaking_rows_of_every_kind();
+    explaining_broken_plans();
 }
 
 /// What a round takes as a plan grows: one cycle of two points, and what grows
@@ -152,17 +171,21 @@ fn growth() {
     run("growth: cells that each turn raises", raised.into_iter());
 }
 
-/// Broken plans alone.
-fn breaking_rows_of_every_kind() {
+/// The calls that explain a broken plan, each beside one check of it.
+fn explaining_broken_plans() {
     let broken = |name: &str, seed: u64, plan| Case::new(format!("{name}, seed {seed}"), plan, EVERY_PLAN);
-    let typical = [1, 3, 5, 7, 9, 11].map(|seed| broken("typical", seed, typical(seed)));
+    let typical = || [1, 3, 5, 7, 9, 11].map(|seed| broken("typical", seed, typical(seed))).into_iter();
+    let wide = |seed| broken("near 16,384 cells", seed, plan_before_lengthening(Class::Dense, seed));
+    run_beside_check("listing, typical", LISTING, library::BROKEN, typical());
+    // Seeds whose listings are handed over.
+    let listed = [0, 4, 5, 8, 14, 15, 19, 21, 22, 28, 34, 43].map(wide).into_iter();
+    run_beside_check("listing, wide", LISTING, library::BROKEN, listed);
     let of_ninety = [1, 2].map(|seed| broken("two rows of ninety", seed, two_rows_of_ninety(seed)));
-    run_breaking_rows("breaking rows, typical", typical.into_iter().chain(of_ninety));
+    run_beside_check("breaking rows, typical", BREAKING_ROWS, library::DONE, typical().chain(of_ninety));
     // Seeds whose trials end soon.
-    let wide = [0, 8, 17, 22, 23, 28]
-        .map(|seed| broken("near 16,384 cells", seed, plan_before_lengthening(Class::Dense, seed)));
-    run_breaking_rows("breaking rows, wide", wide.into_iter());
-    run_breaking_rows("breaking rows, slow cycles", slow_cycles().into_iter());
+    let wide = [0, 8, 17, 22, 23, 28].map(wide).into_iter();
+    run_beside_check("breaking rows, wide", BREAKING_ROWS, library::DONE, wide);
+    run_beside_check("breaking rows, slow cycles", BREAKING_ROWS, library::DONE, slow_cycles().into_iter());
 }
 
 /// Rows that can be kept, and two that contradict each other.
@@ -207,26 +230,28 @@ fn run(class: &str, cases: impl Iterator<Item = Case>) {
     println!();
 }
 
-/// Times the call beside one check of the same plan.
-fn run_breaking_rows(class: &str, cases: impl Iterator<Item = Case>) {
+/// Times a call beside one check of the same plan.
+fn run_beside_check(class: &str, call: Checker, done: u32, cases: impl Iterator<Item = Case>) {
     println!("{class}");
+    let checkers = [CHECK, call];
     let mut ratios = Vec::new();
     for case in cases {
         let plan = second::read(&case.plan).expect("an accepted plan");
         let [mut first, mut second] = [(); 2].map(|()| vec![0; plan.cells()]);
-        let measures = measure_all(BREAKING_ROWS, &case, &mut first, &mut second);
-        let [check, rows] = &measures[..] else { unreachable!("a check and the call") };
-        assert_eq!((check.code, rows.code), (library::BROKEN, library::DONE), "{}", case.name);
-        let ratio = rows.shortest.as_secs_f64() / check.shortest.as_secs_f64();
+        let measures = measure_all(&checkers, &case, &mut first, &mut second);
+        let [check, call] = &measures[..] else { unreachable!("a check and the call") };
+        assert_eq!((check.code, call.code), (library::BROKEN, done), "{}", case.name);
+        let ratio = call.shortest.as_secs_f64() / check.shortest.as_secs_f64();
         println!(
-            "  {}: {} cells, broken {}, {} rows, {} remain; {} a check, {} the rows, {ratio:.1} times the check's",
+            "  {}: {} cells, broken {}, {} rows; {} a check, {} the {} ({}), {ratio:.1} times the check's",
             case.name,
             plan.cells(),
             check.rounds,
             plan.edges.len(),
-            rows.rounds,
             time(check.shortest.as_secs_f64()),
-            time(rows.shortest.as_secs_f64()),
+            time(call.shortest.as_secs_f64()),
+            checkers[1].name,
+            call.rounds,
         );
         ratios.push(ratio);
     }

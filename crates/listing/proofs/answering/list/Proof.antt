@@ -4,7 +4,7 @@ use native.Mathlib.Omega.{arith}
 use denote.Ref.{now}
 use Rattle.plan.specs.Plan.{cells}
 use Rattle.plan.proofs.Ranges.{sizes-few}
-use Rattle.rounds.specs.Outcomes.{outcomeOf}
+use Rattle.rounds_making.specs.Outcomes.{outcomeOf}
 use Rattle.listing.proofs.AnswerLaws.{check-follows, list-refused, list-short, list-answered}
 use borrow.Author.Needs.{needs}
 use Rattle.listing.proofs.answering.list.Statement.{statement}

@@ -1,7 +1,7 @@
 -- Only broken has a listing.
 use mathlib.Core.Path.{refl, ap}
 use denote.Ref.{now}
-use Rattle.rounds.specs.Outcomes.{outcomeOf}
+use Rattle.rounds_making.specs.Outcomes.{outcomeOf}
 use Rattle.listing.proofs.AnswerLaws.{answered-kept, answered-spent, answered-refused, answered-as, broken-as}
 use borrow.Author.Needs.{needs}
 use Rattle.listing.proofs.answering.list_checked.Statement.{statement}

@@ -7,19 +7,22 @@ use Rattle.plan.proofs.bounds.greatest_down.Statement.{statement}
 use Rattle.plan.proofs.bounds.greatest_down.Tie as tie
 
 abbrev Inv-loop : tie.InvT-loop
-Inv-loop plan most₀ n i₀ most i = Highest (downAt plan) 65536 (planOf plan .edges) i most
+Inv-loop plan most₀ n bytes i₀ most i = Highest (downAt plan) 65536 (planOf plan .edges) i most
 
 abbrev μ-loop : tie.MeasureT-loop
-μ-loop plan most₀ n i₀ most i = n - i
+μ-loop plan most₀ n bytes i₀ most i = n - i
 
 edges-requires : tie.Need-edges-requires Inv-loop μ-loop
 edges-requires c κs = tt
 
+edge-data-at-requires : tie.Need-edge-data-at-requires Inv-loop μ-loop
+edge-data-at-requires c κs = tt
+
 loop-holds : tie.Need-loop-holds Inv-loop μ-loop
 loop-holds c = highest-none (omega arith)
 
-edge-down-requires : tie.Need-edge-down-requires Inv-loop μ-loop
-edge-down-requires c κs = omega arith
+edge-down-at-requires : tie.Need-edge-down-at-requires Inv-loop μ-loop
+edge-down-at-requires c κs = let d = c .before .before .edge-data-at .ensures in (omega arith, d .0, d .1)
 
 greater-requires : tie.Need-greater-requires Inv-loop μ-loop
 greater-requires c κs = tt
@@ -32,7 +35,7 @@ loop-less c = omega arith
 
 loop-again : tie.Need-loop-again Inv-loop μ-loop
 unfolding planOf
-loop-again c = highest-more (c .before .before .before .loop .inv) (omega arith) (c .before .edge-down .ensures) (c .greater .ensures)
+loop-again c = highest-more (c .before .before .before .loop .inv) (omega arith) (c .before .edge-down-at .ensures) (c .greater .ensures)
 
 returns : tie.Need-returns Inv-loop μ-loop
 returns c = highest-all (c .before .loop .inv) (omega arith)
@@ -44,8 +47,9 @@ greatest-down-spec =
     Inv-loop
     μ-loop
     edges-requires
+    edge-data-at-requires
     loop-holds
-    edge-down-requires
+    edge-down-at-requires
     greater-requires
     add-i
     loop-less

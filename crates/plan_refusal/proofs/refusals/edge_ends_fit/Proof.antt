@@ -18,48 +18,48 @@ last P i x y d u = simp (lt-ltb, ne-eqb, le-leb)
 points-requires : tie.Need-points-requires
 points-requires c κs = search needs
 
-edge-from-requires : tie.Need-edge-from-requires
-edge-from-requires c κs = search needs
+edge-from-at-requires : tie.Need-edge-from-at-requires
+edge-from-at-requires c κs = search needs
 
-edge-to-requires : tie.Need-edge-to-requires
-edge-to-requires c κs = search needs
+edge-to-at-requires : tie.Need-edge-to-at-requires
+edge-to-at-requires c κs = search needs
 
 returns : tie.Need-returns
 unfolding edgeEndsFit
-returns c = simp (← c .before .before .before .points .ensures .0, ← c .before .before .edge-from .ensures .0, le-ltb _ _ (c .if1 .taken))
+returns c = simp (← c .before .before .before .points .ensures .0, ← c .before .before .edge-from-at .ensures .0, le-ltb _ _ (c .if1 .taken))
 
 returns-2 : tie.Need-returns-2
 unfolding edgeEndsFit
-returns-2 c = simp (← c .before .before .before .before .points .ensures .0, ← c .before .before .edge-to .ensures .0, le-ltb _ _ (c .if2 .taken), and-false)
+returns-2 c = simp (← c .before .before .before .before .points .ensures .0, ← c .before .before .edge-to-at .ensures .0, le-ltb _ _ (c .if2 .taken), and-false)
 
 returns-3 : tie.Need-returns-3
 unfolding edgeEndsFit
-returns-3 c = simp (← c .before .before .before .before .edge-from .ensures .0, ← c .before .before .before .edge-to .ensures .0, eq-eqb _ _ (c .if3 .taken), and-false)
+returns-3 c = simp (← c .before .before .before .before .edge-from-at .ensures .0, ← c .before .before .before .edge-to-at .ensures .0, eq-eqb _ _ (c .if3 .taken), and-false)
 
-edge-up-requires : tie.Need-edge-up-requires
-edge-up-requires c κs = search needs
+edge-up-at-requires : tie.Need-edge-up-at-requires
+edge-up-at-requires c κs = search needs
 
 returns-4 : tie.Need-returns-4
 unfolding edgeEndsFit
-returns-4 c = simp (← c .before .edge-up .ensures .0, lt-leb _ _ (c .if4 .taken), and-false)
+returns-4 c = simp (← c .before .edge-up-at .ensures .0, lt-leb _ _ (c .if4 .taken), and-false)
 
-edge-down-requires : tie.Need-edge-down-requires
-edge-down-requires c κs = search needs
+edge-down-at-requires : tie.Need-edge-down-at-requires
+edge-down-at-requires c κs = search needs
 
 returns-5 : tie.Need-returns-5
-returns-5 c = rw (c .edge-down .ensures .0) (last _ _ (omega arith) (omega arith) (λ e. omega arith) (omega arith))
+returns-5 c = rw (c .edge-down-at .ensures .0) (last _ _ (omega arith) (omega arith) (λ e. omega arith) (omega arith))
 
 pub edge-ends-fit-spec : {M : Type 1} → statement M
 edge-ends-fit-spec =
     tie.close
     (tie.spec
     points-requires
-    edge-from-requires
-    edge-to-requires
+    edge-from-at-requires
+    edge-to-at-requires
     returns
     returns-2
     returns-3
-    edge-up-requires
+    edge-up-at-requires
     returns-4
-    edge-down-requires
+    edge-down-at-requires
     returns-5)

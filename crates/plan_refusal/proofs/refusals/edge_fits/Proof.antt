@@ -13,25 +13,25 @@ returns : tie.Need-returns
 unfolding edgeFits
 returns c = simp (denied (c .before .edge-ends-fit .ensures) (c .if1 .taken))
 
-edge-label-requires : tie.Need-edge-label-requires
-edge-label-requires c κs = search needs
+edge-label-at-requires : tie.Need-edge-label-at-requires
+edge-label-at-requires c κs = search needs
 
 label-fits-requires : tie.Need-label-fits-requires
 label-fits-requires c κs = search needs
 
 returns-2 : tie.Need-returns-2
 unfolding edgeFits
-returns-2 c = simp (← c .before .before .edge-label .ensures .0, denied (c .before .label-fits .ensures) (c .if2 .taken), and-false)
+returns-2 c = simp (← c .before .before .edge-label-at .ensures .0, denied (c .before .label-fits .ensures) (c .if2 .taken), and-false)
 
-edge-spare-requires : tie.Need-edge-spare-requires
-edge-spare-requires c κs = search needs
+edge-spare-at-requires : tie.Need-edge-spare-at-requires
+edge-spare-at-requires c κs = search needs
 
 returns-3 : tie.Need-returns-3
 unfolding edgeFits
 returns-3 c =
     let l = c .before .before in
     let a = l .before in
-    simp (granted (a .before .before .edge-ends-fit .ensures) (a .before .if1 .left), ← a .edge-label .ensures .0, granted (l .label-fits .ensures) (c .before .if2 .left), ← c .edge-spare .ensures .0)
+    simp (granted (a .before .before .edge-ends-fit .ensures) (a .before .if1 .left), ← a .edge-label-at .ensures .0, granted (l .label-fits .ensures) (c .before .if2 .left), ← c .edge-spare-at .ensures .0)
 
 pub edge-fits-spec : {M : Type 1} → statement M
 edge-fits-spec =
@@ -39,8 +39,8 @@ edge-fits-spec =
     (tie.spec
     edge-ends-fit-requires
     returns
-    edge-label-requires
+    edge-label-at-requires
     label-fits-requires
     returns-2
-    edge-spare-requires
+    edge-spare-at-requires
     returns-3)

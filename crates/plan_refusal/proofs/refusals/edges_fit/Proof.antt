@@ -8,10 +8,10 @@ use Rattle.plan_refusal.proofs.refusals.edges_fit.Statement.{statement}
 use Rattle.plan_refusal.proofs.refusals.edges_fit.Tie as tie
 
 abbrev Inv-loop : tie.InvT-loop
-Inv-loop plan marks n i₀ i = Passed (edgeFits plan (planOf plan)) (planOf plan .edges) i
+Inv-loop plan marks n ends bytes i₀ i = Passed (edgeFits plan (planOf plan)) (planOf plan .edges) i
 
 abbrev μ-loop : tie.MeasureT-loop
-μ-loop plan marks n i₀ i = n - i
+μ-loop plan marks n ends bytes i₀ i = n - i
 
 plain-marks-requires : tie.Need-plain-marks-requires Inv-loop μ-loop
 plain-marks-requires c κs = tt
@@ -19,11 +19,21 @@ plain-marks-requires c κs = tt
 edges-requires : tie.Need-edges-requires Inv-loop μ-loop
 edges-requires c κs = tt
 
+edges-at-requires : tie.Need-edges-at-requires Inv-loop μ-loop
+edges-at-requires c κs = tt
+
+edge-data-at-requires : tie.Need-edge-data-at-requires Inv-loop μ-loop
+edge-data-at-requires c κs = tt
+
 loop-holds : tie.Need-loop-holds Inv-loop μ-loop
 loop-holds c = passed-none
 
 edge-fits-requires : tie.Need-edge-fits-requires Inv-loop μ-loop
-edge-fits-requires c κs = (omega arith, c .before .before .before .before .before .before .pre, c .before .before .before .before .plain-marks .ensures)
+edge-fits-requires c κs =
+    let b = c .before .before .before .edge-data-at .ensures in
+    let e = c .before .before .before .before .edges-at .ensures in
+    let m = c .before .before .before .before .before .before in
+    ((omega arith, m .before .before .pre, m .plain-marks .ensures), (e .0, e .1, b .0, b .1))
 
 returns : tie.Need-returns Inv-loop μ-loop
 returns c = passed-not (c .before .before .before .before .loop .inv) (omega arith) (c .before .edge-fits .ensures) (c .if1 .taken)
@@ -48,6 +58,8 @@ edges-fit-spec =
     μ-loop
     plain-marks-requires
     edges-requires
+    edges-at-requires
+    edge-data-at-requires
     loop-holds
     edge-fits-requires
     returns

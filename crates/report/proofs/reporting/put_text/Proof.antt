@@ -4,7 +4,7 @@ use denote.Ref.{now}
 use borrow.Author.Needs.{needs}
 use Rattle.plan.specs.Layout.{planOf}
 use Rattle.plan.proofs.Ranges.{sizes-few}
-use Rattle.rounds.specs.Outcomes.{outcomeOf}
+use Rattle.rounds_making.specs.Outcomes.{outcomeOf}
 use Rattle.text.proofs.Puts.{room-first}
 use Rattle.report.specs.Text.{textOf}
 use Rattle.report.proofs.PrintedLaws.{text-refused, lines-asked, lines-put}

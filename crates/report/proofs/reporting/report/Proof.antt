@@ -2,7 +2,7 @@
 use native.Mathlib.Omega.{arith}
 use denote.Ref.{now}
 use borrow.Author.Needs.{needs}
-use Rattle.rounds.specs.Outcomes.{refused}
+use Rattle.rounds_making.specs.Outcomes.{refused}
 use Rattle.report.proofs.Lengths.{first-length}
 use Rattle.report.proofs.PrintedLaws.{long-reported, short-printable, short-reported}
 use Rattle.report.proofs.reporting.report.Statement.{statement}

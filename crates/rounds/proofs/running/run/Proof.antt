@@ -3,7 +3,7 @@ use denote.Ref.{now}
 use borrow.Author.Needs.{needs}
 use Rattle.plan.specs.Horizons.{planWith}
 use Rattle.plan.proofs.Ranges.{sizes-few}
-use Rattle.rounds.proofs.RoundsMade.{copied-lent, copied-ran}
+use Rattle.rounds_making.proofs.RoundsMade.{copied-lent, copied-ran}
 use Rattle.rounds.proofs.running.run.Statement.{statement}
 use Rattle.rounds.proofs.running.run.Tie as tie
 

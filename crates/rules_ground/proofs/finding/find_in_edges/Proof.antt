@@ -10,25 +10,28 @@ use Rattle.rules_ground.proofs.finding.find_in_edges.Statement.{stateme
 use Rattle.rules_ground.proofs.finding.find_in_edges.Tie as tie
 
 abbrev Inv-loop : tie.InvT-loop
-Inv-loop plan marks table s n i₀ i = Missed (λ i. ByRule (Propagation (PlanEdge i)) (planOf plan) table (s .line)) 0 (planOf plan .edges) i
+Inv-loop plan marks table s n ends i₀ i = Missed (λ i. ByRule (Propagation (PlanEdge i)) (planOf plan) table (s .line)) 0 (planOf plan .edges) i
 
 abbrev μ-loop : tie.MeasureT-loop
-μ-loop plan marks table s n i₀ i = n - i
+μ-loop plan marks table s n ends i₀ i = n - i
 
 edges-requires : tie.Need-edges-requires Inv-loop μ-loop
 edges-requires c κs = tt
 
+edges-at-requires : tie.Need-edges-at-requires Inv-loop μ-loop
+edges-at-requires c κs = tt
+
 loop-holds : tie.Need-loop-holds Inv-loop μ-loop
 loop-holds c = missed-none (omega arith)
 
-find-by-requires : tie.Need-find-by-requires Inv-loop μ-loop
-find-by-requires c κs = (c .before .before .before .before .before .pre, omega arith)
+find-by-edge-requires : tie.Need-find-by-edge-requires Inv-loop μ-loop
+find-by-edge-requires c κs = ((c .before .before .before .before .before .before .pre, omega arith), c .before .before .edges-at .ensures)
 
 is-found-requires : tie.Need-is-found-requires Inv-loop μ-loop
 is-found-requires c κs = tt
 
 returns : tie.Need-returns Inv-loop μ-loop
-returns c = found _ _ (c .before .is-found .ensures) (c .if1 .taken) (c .before .before .find-by .ensures)
+returns c = found _ _ (c .before .is-found .ensures) (c .if1 .taken) (c .before .before .find-by-edge .ensures)
 
 add-i : tie.Need-add-i Inv-loop μ-loop
 add-i c = omega arith
@@ -37,7 +40,7 @@ loop-less : tie.Need-loop-less Inv-loop μ-loop
 loop-less c = omega arith
 
 loop-again : tie.Need-loop-again Inv-loop μ-loop
-loop-again c = missed-more (c .before .before .before .before .loop .inv) (omega arith) (not-found _ _ (c .before .is-found .ensures) (c .if1 .left) (c .before .before .find-by .ensures))
+loop-again c = missed-more (c .before .before .before .before .loop .inv) (omega arith) (not-found _ _ (c .before .is-found .ensures) (c .if1 .left) (c .before .before .find-by-edge .ensures))
 
 returns-2 : tie.Need-returns-2 Inv-loop μ-loop
 returns-2 c = no-answer (missed-all (c .before .loop .inv) (omega arith))
@@ -49,8 +52,9 @@ find-in-edges-spec =
     Inv-loop
     μ-loop
     edges-requires
+    edges-at-requires
     loop-holds
-    find-by-requires
+    find-by-edge-requires
     is-found-requires
     returns
     add-i

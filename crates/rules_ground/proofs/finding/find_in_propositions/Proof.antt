@@ -19,14 +19,14 @@ propositions-requires c κs = tt
 loop-holds : tie.Need-loop-holds Inv-loop μ-loop
 loop-holds c = missed-none (omega arith)
 
-find-by-either-requires : tie.Need-find-by-either-requires Inv-loop μ-loop
-find-by-either-requires c κs = (c .before .before .before .before .before .pre, omega arith, omega arith)
+find-by-proposition-requires : tie.Need-find-by-proposition-requires Inv-loop μ-loop
+find-by-proposition-requires c κs = (c .before .before .before .before .before .pre, omega arith)
 
 is-found-requires : tie.Need-is-found-requires Inv-loop μ-loop
 is-found-requires c κs = tt
 
 returns : tie.Need-returns Inv-loop μ-loop
-returns c = found _ _ (c .before .is-found .ensures) (c .if1 .taken) (c .before .before .find-by-either .ensures)
+returns c = found _ _ (c .before .is-found .ensures) (c .if1 .taken) (c .before .before .find-by-proposition .ensures)
 
 add-j : tie.Need-add-j Inv-loop μ-loop
 add-j c = omega arith
@@ -35,7 +35,7 @@ loop-less : tie.Need-loop-less Inv-loop μ-loop
 loop-less c = omega arith
 
 loop-again : tie.Need-loop-again Inv-loop μ-loop
-loop-again c = missed-more (c .before .before .before .before .loop .inv) (omega arith) (not-found _ _ (c .before .is-found .ensures) (c .if1 .left) (c .before .before .find-by-either .ensures))
+loop-again c = missed-more (c .before .before .before .before .loop .inv) (omega arith) (not-found _ _ (c .before .is-found .ensures) (c .if1 .left) (c .before .before .find-by-proposition .ensures))
 
 returns-2 : tie.Need-returns-2 Inv-loop μ-loop
 returns-2 c = no-answer (missed-all (c .before .loop .inv) (omega arith))
@@ -48,7 +48,7 @@ find-in-propositions-spec =
     μ-loop
     propositions-requires
     loop-holds
-    find-by-either-requires
+    find-by-proposition-requires
     is-found-requires
     returns
     add-j

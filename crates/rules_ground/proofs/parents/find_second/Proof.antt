@@ -1,52 +1,45 @@
--- `rules_ground::parents::find_second` meets its contract: the loop's invariant is that no cell passed is a second parent.
-use Prim.Native.Nat.{_-_}
+-- `rules_ground::parents::find_second` meets its contract: the loop's invariant is that no cell passed within the mask is a second parent.
+use Prim.Native.Nat.{_+_, _-_}
 use native.Mathlib.Omega.{arith}
 use Rattle.plan.specs.Layout.{planOf}
 use Rattle.rules_ground.specs.Searching.{SecondAt}
-use Rattle.rules_ground.proofs.AnswerLaws.{answer, no-answer, Missed, missed-none, missed-more, missed-all}
-use Rattle.rules_ground.proofs.ParentLaws.{pair-grounds, pair-fails}
-use Rattle.rules_ground.proofs.SearchedLaws.{cell-read, in-labels}
+use Rattle.rules_ground.proofs.AnswerLaws.{no-answer, found, not-found, Passed, passed-none, passed-more, passed-all}
+use Rattle.rules_ground.proofs.SearchedLaws.{cell-from}
 use Rattle.rules_ground.proofs.parents.find_second.Statement.{statement}
 use Rattle.rules_ground.proofs.parents.find_second.Tie as tie
 
 abbrev Inv-loop : tie.InvT-loop
-Inv-loop plan marks table s by c lo hi first d₀ d = Missed (SecondAt (planOf plan) table (s .line) by c) lo hi d
+Inv-loop plan marks table s by down c lo mask v₀ v = Passed (λ v. SecondAt (planOf plan) table (s .line) by c (lo + v)) mask (s .width) v
 
 abbrev μ-loop : tie.MeasureT-loop
-μ-loop plan marks table s by c lo hi first d₀ d = hi - d
-
-line-at-requires : tie.Need-line-at-requires Inv-loop μ-loop
-line-at-requires c κs = let k = c .before .before .before .pre .0 .at-cell in cell-read _ _ _ _ (k .searched) _ (k .inside)
+μ-loop plan marks table s by down c lo mask v₀ v = s .width - v
 
 loop-holds : tie.Need-loop-holds Inv-loop μ-loop
-loop-holds c = missed-none (c .before .before .before .before .pre .1)
+loop-holds c = passed-none
 
-gives-with-requires : tie.Need-gives-with-requires Inv-loop μ-loop
-gives-with-requires c κs =
-    let k = c .before .before .before .before .before .before .pre .0 .at-cell in
-    let l = c .before .before .line-at .ensures in
-    (record { searched = k .searched; row = k .row; inside = omega arith }, in-labels _ _ _ _ (k .searched) _ _ (k .inside) l)
+add-find-waiting : tie.Need-add-find-waiting Inv-loop μ-loop
+add-find-waiting c = let p = c .before .before .before .before .before .pre in omega (arith, cell-from _ _ _ _ (p .0 .at-first .searched) _ _ _ (p .1 .inside) (c .before .before .loop .inv .within (omega arith)))
+
+find-waiting-requires : tie.Need-find-waiting-requires Inv-loop μ-loop
+find-waiting-requires c κs = let p = c .before .before .before .before .before .pre in (p .0, cell-from _ _ _ _ (p .0 .at-first .searched) _ _ _ (p .1 .inside) (c .before .before .loop .inv .within (omega arith)) .0)
+
+is-found-requires : tie.Need-is-found-requires Inv-loop μ-loop
+is-found-requires c κs = tt
 
 returns : tie.Need-returns Inv-loop μ-loop
-returns c =
-    let p = c .before .before .before .before .before .before .before .before .pre in
-    let l = c .before .before .before .before .line-at .ensures in
-    answer (pair-grounds _ _ _ _ _ _ _ _ (p .0 .at-cell .row) (p .0 .at-cell .inside) (p .0 .holds) (omega arith) (l .is-line _ (p .0 .at-cell .searched .framed)) (c .before .gives-with .ensures) (c .if1 .taken))
+returns c = found _ _ (c .before .is-found .ensures) (c .if2 .taken) (c .before .before .find-waiting .ensures)
 
-add-d : tie.Need-add-d Inv-loop μ-loop
-add-d c = omega arith
+next-within-requires : tie.Need-next-within-requires Inv-loop μ-loop
+next-within-requires c κs = record { masked = c .before .before .before .before .before .before .before .before .pre .1 .masked; place-in = omega arith; within = c .before .before .before .before .before .loop .inv .within (omega arith) }
 
 loop-less : tie.Need-loop-less Inv-loop μ-loop
-loop-less c = omega arith
+loop-less c = omega (arith, c .next-within .ensures .after)
 
 loop-again : tie.Need-loop-again Inv-loop μ-loop
-loop-again c =
-    let p = c .before .before .before .before .before .before .before .before .pre in
-    let l = c .before .before .before .before .line-at .ensures in
-    missed-more (c .before .before .before .loop .inv) (omega arith) (pair-fails _ _ _ _ _ _ _ _ (l .is-line _ (p .0 .at-cell .searched .framed)) (c .before .gives-with .ensures) (c .if1 .left))
+loop-again c = passed-more (c .before .before .before .before .before .before .loop .inv) (c .next-within .ensures) (not-found _ _ (c .before .before .is-found .ensures) (c .before .if2 .left) (c .before .before .before .find-waiting .ensures))
 
 returns-2 : tie.Need-returns-2 Inv-loop μ-loop
-returns-2 c = no-answer (missed-all (c .before .loop .inv) (omega arith))
+returns-2 c = no-answer (passed-all (c .before .before .loop .inv) (omega arith) (c .before .before .before .before .before .pre .1 .masked .mask-in))
 
 pub find-second-spec : {M : Type 1} → statement M
 find-second-spec =
@@ -54,11 +47,12 @@ find-second-spec =
     (tie.spec
     Inv-loop
     μ-loop
-    line-at-requires
     loop-holds
-    gives-with-requires
+    add-find-waiting
+    find-waiting-requires
+    is-found-requires
     returns
-    add-d
+    next-within-requires
     loop-less
     loop-again
     returns-2)

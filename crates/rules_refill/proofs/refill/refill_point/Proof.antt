@@ -14,36 +14,30 @@ horizon-at-requires c κs =
     let p = c .before .before .before .before .before .before .before .before .before .before .before .before .before .before .before .before .pre in
     (p .0, (c .before .before .before .before .before .before .fill-edges .ensures .1 .0, p .1 .1))
 
-fill-links-requires : tie.Need-fill-links-requires
-fill-links-requires c κs = (c .before .before .before .before .before .before .before .before .before .before .before .before .before .before .before .before .before .before .before .before .before .before .before .pre .0, c .before .before .before .before .before .before .horizon-at .ensures .1 .0)
-
-fill-propositions-requires : tie.Need-fill-propositions-requires
-fill-propositions-requires c κs = (c .before .before .before .before .before .before .before .before .before .before .before .before .before .before .before .before .before .before .before .before .before .before .before .before .before .before .before .before .before .before .pre .0, c .before .before .before .before .before .before .fill-links .ensures .1 .0)
+fill-removals-requires : tie.Need-fill-removals-requires
+fill-removals-requires c κs = (c .before .before .before .before .before .before .before .before .before .before .before .before .before .before .before .before .before .before .before .before .before .before .before .pre .0, c .before .before .before .before .before .before .horizon-at .ensures .1 .0)
 
 same-length : tie.Need-same-length
 same-length c =
-    let a = c .before .before .before .before .before .before .before .before .before .before .before .before .before .before .before .before .before .before .before .before .before .before .before .before .before .fill-edges .ensures in
-    let b = c .before .before .before .before .before .before .before .before .before .before .before .before .before .before .before .before .before .before .horizon-at .ensures in
-    let d = c .before .before .before .before .before .before .before .before .before .before .before .fill-links .ensures in
-    let e = c .before .before .before .before .fill-propositions .ensures in
-    e .1 .1 .0 ∙ d .1 .1 .0 ∙ b .1 .1 .0 ∙ a .1 .1 .0
+    let a = c .before .before .before .before .before .before .before .before .before .before .before .before .before .before .before .before .before .before .fill-edges .ensures in
+    let d = c .before .before .before .before .before .before .before .before .before .before .before .horizon-at .ensures in
+    let e = c .before .before .before .before .fill-removals .ensures in
+    e .1 .1 .0 ∙ d .1 .1 .0 ∙ a .1 .1 .0
 
 same-length-2 : tie.Need-same-length-2
 same-length-2 c =
-    let a = c .before .before .before .before .before .before .before .before .before .before .before .before .before .before .before .before .before .before .before .before .before .before .before .before .before .fill-edges .ensures in
-    let b = c .before .before .before .before .before .before .before .before .before .before .before .before .before .before .before .before .before .before .horizon-at .ensures in
-    let d = c .before .before .before .before .before .before .before .before .before .before .before .fill-links .ensures in
-    let e = c .before .before .before .before .fill-propositions .ensures in
-    e .1 .1 .1 ∙ d .1 .1 .1 ∙ b .1 .1 .1 ∙ a .1 .1 .1
+    let a = c .before .before .before .before .before .before .before .before .before .before .before .before .before .before .before .before .before .before .fill-edges .ensures in
+    let d = c .before .before .before .before .before .before .before .before .before .before .before .horizon-at .ensures in
+    let e = c .before .before .before .before .fill-removals .ensures in
+    e .1 .1 .1 ∙ d .1 .1 .1 ∙ a .1 .1 .1
 
 returns : tie.Need-returns
 returns c =
-    let p = c .before .before .before .before .before .before .before .before .before .before .before .before .before .before .before .before .before .before .before .before .before .before .before .before .before .before .before .before .before .before .before .before .before .before .before .pre in
-    let a = c .before .before .before .before .before .before .before .before .before .before .before .before .before .before .before .before .before .before .before .before .before .before .before .before .before .fill-edges .ensures in
-    let b = c .before .before .before .before .before .before .before .before .before .before .before .before .before .before .before .before .before .before .horizon-at .ensures in
-    let d = c .before .before .before .before .before .before .before .before .before .before .before .fill-links .ensures in
-    let e = c .before .before .before .before .fill-propositions .ensures in
-    (refilled-by (p .0) (p .1 .0) _ _ _ _ (a .0) (b .0) (d .0) (e .0), (e .1 .0, (e .1 .1 .0 ∙ d .1 .1 .0 ∙ b .1 .1 .0 ∙ a .1 .1 .0, e .1 .1 .1 ∙ d .1 .1 .1 ∙ b .1 .1 .1 ∙ a .1 .1 .1)))
+    let p = c .before .before .before .before .before .before .before .before .before .before .before .before .before .before .before .before .before .before .before .before .before .before .before .before .before .before .before .before .pre in
+    let a = c .before .before .before .before .before .before .before .before .before .before .before .before .before .before .before .before .before .before .fill-edges .ensures in
+    let d = c .before .before .before .before .before .before .before .before .before .before .before .horizon-at .ensures in
+    let e = c .before .before .before .before .fill-removals .ensures in
+    (refilled-by (p .0) (p .1 .0) _ _ _ (a .0) (d .0) (e .0), (e .1 .0, (e .1 .1 .0 ∙ d .1 .1 .0 ∙ a .1 .1 .0, e .1 .1 .1 ∙ d .1 .1 .1 ∙ a .1 .1 .1)))
 
 pub refill-point-spec : {M : Type 1} → statement M
 refill-point-spec =
@@ -51,8 +45,7 @@ refill-point-spec =
     (tie.spec
     fill-edges-requires
     horizon-at-requires
-    fill-links-requires
-    fill-propositions-requires
+    fill-removals-requires
     same-length
     same-length-2
     returns)

@@ -1,0 +1,4 @@
+pub mod Rounds
+pub mod Outcomes
+pub mod Runs
+pub mod Making

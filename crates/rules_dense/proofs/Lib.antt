@@ -1,0 +1,4 @@
+mod FreePlaces
+mod GatherLaws
+mod RoomLaws
+mod DenseLaws

@@ -1,0 +1,4 @@
+mod Loops
+mod Pairs
+mod ThreeHalves
+mod Lending
