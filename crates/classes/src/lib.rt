@@ -1,4 +1,6 @@
 // The check of a plan by the device classes of its links.
+#![tactic(auto)]
+
 mod checking;
 mod judging;
 

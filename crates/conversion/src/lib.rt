@@ -1,4 +1,6 @@
 // A plan from one of its two forms to the other: without labels of points, and with one for each.
+#![tactic(auto)]
+
 mod converting;
 mod writing;
 

@@ -1,4 +1,6 @@
 // The C interface, which include/sulgrach.h declares: a slice is a pointer and a length in elements.
+#![tactic(auto)]
+
 mod answers;
 mod calls;
 mod converting;

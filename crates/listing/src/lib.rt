@@ -1,4 +1,6 @@
 // The listing of a broken plan.
+#![tactic(auto)]
+
 mod answering;
 
 pub use answering::list;

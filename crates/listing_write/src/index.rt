@@ -1,13 +1,14 @@
 // The 16-bit table: for each cell the number of its last line.
 ghost use Rattle.std.specs.Prelude.{◌≡◌, [], ◌+◌, ◌<◌, length, set};
 ghost use Rattle.plan.specs.Moments.{SameLength};
-ghost use Rattle.plan.specs.Plan.{Plan, width as widthOf, cells as cells_of};
+ghost use Rattle.plan.specs.Plan.{Plan, width as width_of, cells as cells_of};
 ghost use Rattle.plan.specs.Layout.{plan_of};
 ghost use Rattle.plan.specs.Refusal.{Accepted};
 ghost use Rattle.listing_lines.specs.Listed.{cell_lines, start_number, index_table};
 ghost use Rattle.listing_write.specs.Progress.{all_raised, NumbersReady, CellNumbered, Numbers};
 
-use plan::{points, width as width_of};
+use plan::points;
+use plan::width as width_for;
 
 pub fn put_number(index: &mut [u16], c: usize, number: usize)
     requires { (c < length index.old) × (number < 65536) }

@@ -1,4 +1,6 @@
 // The lines of a listing counted, and written with their grounds.
+#![tactic(auto)]
+
 mod bytes;
 mod counting;
 mod entries;

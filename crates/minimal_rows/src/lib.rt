@@ -1,4 +1,6 @@
 // The edge rows that break a plan.
+#![tactic(auto)]
+
 mod reducing;
 mod trials;
 

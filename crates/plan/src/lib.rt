@@ -1,4 +1,6 @@
 // A plan read from its bytes, and its labels.
+#![tactic(auto)]
+
 mod bounds;
 mod bytes;
 mod fields;

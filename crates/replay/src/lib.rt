@@ -1,4 +1,6 @@
 // Replay of a listing.
+#![tactic(auto)]
+
 mod fields;
 mod judging;
 

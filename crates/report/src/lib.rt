@@ -1,4 +1,6 @@
 // The text that the program prints, put into a lent buffer.
+#![tactic(auto)]
+
 mod lines;
 mod reporting;
 

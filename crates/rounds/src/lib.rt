@@ -1,4 +1,6 @@
 // Rounds and the check.
+#![tactic(auto)]
+
 mod running;
 
 pub use rounds_making::Answer;

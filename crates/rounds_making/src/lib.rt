@@ -1,4 +1,6 @@
 // The making of rounds, and what they end with.
+#![tactic(auto)]
+
 mod making;
 
 pub use making::rounds_to;

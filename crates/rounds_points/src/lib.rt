@@ -1,4 +1,6 @@
 // Sets of points, a bit for each, and the points that a round concerns.
+#![tactic(auto)]
+
 mod concern;
 mod sets;
 

@@ -1,4 +1,6 @@
 // Lent tables: their first cells, one round, and what is known of a table between rounds.
+#![tactic(auto)]
+
 mod cells;
 mod lines;
 mod logging;

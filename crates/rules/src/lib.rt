@@ -1,4 +1,6 @@
 // Lines and the six rules.
+#![tactic(auto)]
+
 mod edges;
 mod parents;
 

@@ -1,4 +1,6 @@
 // A rule applied to lines: what it gives.
+#![tactic(auto)]
+
 mod application;
 mod propagation;
 mod removal;

@@ -1,4 +1,6 @@
 // One point's part of the next table, and the copy of a table's first cells; the shapes of the rules.
+#![tactic(auto)]
+
 mod cells;
 mod fill;
 mod rows;

@@ -1,1 +1,2 @@
 // Following a table: definitions and laws alone.
+#![tactic(auto)]

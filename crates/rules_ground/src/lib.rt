@@ -1,4 +1,6 @@
 // Finding a ground for a line of the next table.
+#![tactic(auto)]
+
 mod finding;
 mod lines;
 mod parents;

@@ -1,4 +1,6 @@
 // The rules in loops over listed places, which raise the cells of a part and note them.
+#![tactic(auto)]
+
 mod listed;
 mod notes;
 

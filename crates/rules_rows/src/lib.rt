@@ -1,4 +1,6 @@
 // The rows of a plan, read from its bytes once, its edges linked by the point where they start.
+#![tactic(auto)]
+
 mod reading;
 mod shapes;
 

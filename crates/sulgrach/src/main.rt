@@ -1,4 +1,6 @@
 // The program: a plan on standard input, and on standard output what the check answers and the cells of each point.
+#![tactic(auto)]
+
 ghost use Rattle.std.specs.Prelude.{◌≡◌, ◌≤◌, length, take, replicate};
 ghost use Rattle.report.specs.Printed.{printed};
 

@@ -1,4 +1,6 @@
 // Bytes and numbers put into a lent buffer as text.
+#![tactic(auto)]
+
 mod lengths;
 mod putting;
 
