@@ -21,7 +21,7 @@ pub fn put_number(index: &mut [u16], c: usize, number: usize)
 // The point of a starting cell; 0 for another cell. The width is a power of 2, so that a mask finds the starting cells without a division.
 fn start_number(width: usize, c: usize) -> usize
     requires { (0 < width) × (c < 65536) }
-    ensures { ((P : Plan) → width ≡ widthOf P → result ≡ start_number P c) × (result < 65536) }
+    ensures { ((P : Plan) → width ≡ width_of P → result ≡ start_number P c) × (result < 65536) }
 {
     if c & (width - 1) != 0 {
         return 0;
@@ -35,7 +35,7 @@ pub fn start_index(plan: &[u8], index: &mut [u16])
     ensures index_value { index.new ≡ index_table (plan_of plan.now) [] }
     ensures same_length { SameLength index }
 {
-    let width = width_of(plan);
+    let width = width_for(plan);
     let end = index.len();
     for c in 0..end {
         put_number(index, c, start_number(width, c));

@@ -6,16 +6,16 @@ use Prim.Native.Nat.{ℕ, zero, suc, ◌+◌, ◌≤◌, ◌<◌}
 use native.Mathlib.Nat.{eq-or-lt_of_le, le_of_suc-le-suc, le_antisymm}
 use native.Mathlib.Numerals.{add-one}
 use native.Mathlib.Omega.{arith}
-use borrow.Author.Tests.{eq-eqb, ne_eqb, not-true, not-false}
+use borrow.Author.Tests.{eq-eqb, ne_eqb}
 use lib.Dec.{eqb}
 use Rattle.plan.specs.Refusal.{every, some, differs}
 
--- ---- a called test, whose value r the code negates
-pub denied : {r b : Bool} → r ≡ b → not r ≡ true → b ≡ false
-denied {r} e t = sym e ∙ not-true r t
+-- ---- a called test, whose value is r
+pub denied : {r b : Bool} → r ≡ b → r ≡ false → b ≡ false
+denied e t = sym e ∙ t
 
-pub granted : {r b : Bool} → r ≡ b → not r ≡ false → b ≡ true
-granted {r} e t = sym e ∙ not-false r t
+pub granted : {r b : Bool} → r ≡ b → r ≡ true → b ≡ true
+granted e t = sym e ∙ t
 
 -- ---- a test of each row: the loop leaves at the first row whose test gives false
 every_miss : (f : ℕ → Bool) (n i : ℕ) → i < n → f i ≡ false → every f n ≡ false
@@ -34,14 +34,14 @@ module _ {f : ℕ → Bool} {n : ℕ} where
   unfolding every
   passed_none = record { within = omega arith; held = refl }
 
-  pub passed_more : {i : ℕ} {r : Bool} → Passed f n i → i < n → r ≡ f i → not r ≡ false → Passed f n (i + 1)
+  pub passed_more : {i : ℕ} {r : Bool} → Passed f n i → i < n → r ≡ f i → r ≡ true → Passed f n (i + 1)
   unfolding every
   passed_more p l e t = record { within = omega arith; held = rw (add-one, p.held) (granted e t) }
 
   pub passed_all : {i : ℕ} → Passed f n i → n ≤ i → true ≡ every f n
   passed_all p l = sym p.held ∙ ap (every f) (le_antisymm p.within l)
 
-  pub passed_not : {i : ℕ} {r : Bool} → Passed f n i → i < n → r ≡ f i → not r ≡ true → false ≡ every f n
+  pub passed_not : {i : ℕ} {r : Bool} → Passed f n i → i < n → r ≡ f i → r ≡ false → false ≡ every f n
   passed_not {i} p l e t = sym (every_miss f n i l (denied e t))
 
 -- the numbers f 0 .. f (i - 1), of n rows, are all other than x

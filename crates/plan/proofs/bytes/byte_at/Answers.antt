@@ -1,0 +1,14 @@
+-- `plan::bytes::byte_at` meets its contract: past the end `get_or` is 0 too.
+use mathlib.Core.Path.{sym}
+use borrow.Author.Rules.{rules}
+use lib.ListN.{get_or-eq_default}
+use Rattle.plan.specs.Bytes.{byte_at}
+use Rattle.plan.proofs.bytes.byte_at.Goals as goal
+
+pub returns-then-at-bytes : goal.returns-then-at-bytes
+unfolding byte_at
+returns-then-at-bytes c = search rules
+
+pub returns : goal.returns
+unfolding byte_at
+returns c = (sym (get_or-eq_default c.args.bytes.now 0 c.if-at-bytes.false), search rules)

@@ -1,0 +1,10 @@
+-- `plan::fields::edge_to_at` meets its contract.
+use mathlib.Core.Path.{ap, ◌∙◌}
+use native.Mathlib.Omega.{arith}
+use Rattle.plan.specs.Bytes.{byte_at}
+use Rattle.plan.specs.Layout.{ends_at, row_of_edge, plan_of}
+use Rattle.plan.proofs.fields.edge_to_at.Goals as goal
+
+pub returns : goal.returns
+unfolding plan_of ends_at row_of_edge
+returns c = (c.byte_at.ensures.0 ∙ ap (byte_at _) (omega arith), c.byte_at.ensures.1)

@@ -1,0 +1,8 @@
+-- `plan::fields::edges` meets its contract.
+use borrow.Author.Rules.{rules}
+use Rattle.plan.specs.Layout.{plan_of}
+use Rattle.plan.proofs.fields.edges.Goals as goal
+
+pub returns : goal.returns
+unfolding plan_of
+returns c = search rules
