@@ -50,8 +50,9 @@ pub record IsNext (P : Plan) (T U : List ℕ) : Type 0 where
 -- ---- membership
 module _ {A B : Type 0} (f : A → List B) where
   in_each : {x : A} {y : B} {xs : List A} → Memᴰ x xs → Memᴰ y (f x) → Memᴰ y (each xs f)
-  in_each {y} {xs = z ∷ zs} (Memᴰ.head e) m = Memᴰ.append_left (each zs f) (subst (λ (w : A). Memᴰ y (f w)) e m)
+  in_each {y = y} {xs = z ∷ zs} (Memᴰ.head e) m = Memᴰ.append_left (each zs f) (subst (λ (w : A). Memᴰ y (f w)) e m)
   in_each {xs = z ∷ zs} (Memᴰ.tail h) m = Memᴰ.append_right (f z) (in_each h m)
+  in_each {xs = []} x m = elim x [ ]
 
   of_each : {y : B} (xs : List A) → Memᴰ y (each xs f) → (x : A) × Memᴰ x xs × Memᴰ y (f x)
   of_each [] m = absurd (Memᴰ.not-nil m)

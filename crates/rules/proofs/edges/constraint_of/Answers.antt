@@ -51,6 +51,39 @@ ruleset numbers = (edge_number_lem, upper_number, lower_number)
 
 ruleset says = (plan_edge_is, horizon_edge_is, upper_bound_is, lower_bound_is, no_label, no_down)
 
+pub edge_from-requires : goal.edge_from-requires
+edge_from-requires c = search numbers
+
+pub edge_to-requires : goal.edge_to-requires
+edge_to-requires c = search numbers
+
+pub edge_label-requires : goal.edge_label-requires
+edge_label-requires c = search numbers
+
+pub edge_up-requires : goal.edge_up-requires
+edge_up-requires c = search numbers
+
+pub edge_down-requires : goal.edge_down-requires
+edge_down-requires c = search numbers
+
+pub link_activation-requires : goal.link_activation-requires
+link_activation-requires c = search numbers
+
+pub link_finish-requires : goal.link_finish-requires
+link_finish-requires c = search numbers
+
+pub link_most-requires : goal.link_most-requires
+link_most-requires c = search numbers
+
+pub link_finish-requires-in-LowerBound : goal.link_finish-requires-in-LowerBound
+link_finish-requires-in-LowerBound c = search numbers
+
+pub link_activation-requires-in-LowerBound : goal.link_activation-requires-in-LowerBound
+link_activation-requires-in-LowerBound c = search numbers
+
+pub link_least-requires : goal.link_least-requires
+link_least-requires c = search numbers
+
 pub returns-in-PlanEdge : goal.returns-in-PlanEdge
 returns-in-PlanEdge c = search says
 

@@ -1,0 +1,23 @@
+-- The loop's invariant: the rows with mark 1 among those passed are listed.
+use mathlib.Core.Path.{◌≡◌}
+use mathlib.Core.Logic.{⊎_elim}
+use Prim.Native.Nat.{◌-◌}
+use native.Mathlib.Omega.{arith}
+use Rattle.plan_rows.proofs.Listed.{listed_none, listed_more, listed_same}
+use Rattle.plan_rows.proofs.writing.marked_rows.Goals as goal
+
+pub loop-i-init : goal.loop-i-init
+loop-i-init c = (omega arith, listed_none _ _)
+
+pub loop-i-preserved : goal.loop-i-preserved
+loop-i-preserved c = let l = c.loop-i.invariant.1 in
+    (omega arith, ⊎_elim (λ w. listed_more l (omega arith) (omega arith) w.0.taken w.1 w.2) (λ w. listed_same l (omega arith) w.0.left w.1 w.2) c.if-marks-i-eq1.branch)
+
+pub shape_of-numbers : goal.shape_of-numbers
+shape_of-numbers c = c.loop-i.invariant.1.begun.length_is
+
+pub returns : goal.returns
+returns c = let l = c.loop-i in
+    let e : l.i ≡ c.args.n = omega arith in
+    let b = rw e at l.invariant.1.begun in
+    record { value = b.count_is; numbers_value = b.now_is; same_length = b.length_is }
