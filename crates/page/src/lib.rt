@@ -8,7 +8,7 @@ mod printing;
 pub use printing::page;
 
 // What a page answers; specs/Page says what each stands for.
-#[derive(Drop)]
+#[derive(Clone, Copy)]
 pub enum Paged {
     Printed(usize),
     Refused(u32),

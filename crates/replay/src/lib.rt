@@ -8,7 +8,7 @@ pub use judging::replay;
 use rules::Rule;
 
 // A rule with its row, if both are in range.
-#[derive(Drop)]
+#[derive(Clone, Copy)]
 pub enum Ruled {
     By(Rule),
     Nothing,

@@ -6,7 +6,7 @@ mod making;
 pub use making::rounds_to;
 
 // What rounds and the check answer; specs/Outcomes says what each stands for.
-#[derive(Drop)]
+#[derive(Clone, Copy)]
 pub enum Answer {
     Kept(u64),
     Broken(u64),

@@ -67,7 +67,7 @@ fn points_to_fill(
 }
 
 // A round made: whether it stops the rounds, the points that it changed, those with a line beside the starting line, and whether a raised cell is over the horizon.
-#[derive(Drop)]
+#[derive(Clone, Copy)]
 pub struct Round {
     pub stops: bool,
     pub changed: usize,

@@ -11,7 +11,7 @@ use rules::Line;
 pub use sets::contains;
 
 // What applying a rule gives.
-#[derive(Drop)]
+#[derive(Clone, Copy)]
 pub enum Applied {
     Gives(Line),
     Nothing,

@@ -11,7 +11,7 @@ use plan::widen_cell;
 use rules_listed::raise;
 
 // The places without the row's bits: how many there are, the lowest of the row's bits, and by how much a place above these bits lies further up.
-#[derive(Drop)]
+#[derive(Clone, Copy)]
 pub struct Free {
     pub count: usize,
     pub low: usize,

@@ -8,7 +8,7 @@ use plan::{is_plain, lesser};
 
 // Rules 1 to 3, by their row: every line of one point goes to another point, with bits added to its place, unless it has a bit to avoid.
 // The weight of the row is up less down.
-#[derive(Drop)]
+#[derive(Clone, Copy)]
 pub struct Propagator {
     pub from: usize,
     pub avoid: usize,
@@ -19,7 +19,7 @@ pub struct Propagator {
 
 // Rules 4 and 6, by their row: the bits of the mask are removed with a line of the other point.
 // The mask is a run of bits, and low the lowest of them.
-#[derive(Drop)]
+#[derive(Clone, Copy)]
 pub struct Remover {
     pub other: usize,
     pub mask: usize,

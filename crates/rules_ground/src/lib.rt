@@ -12,14 +12,14 @@ pub use lines::{frame_of, line_at, line_with};
 use rules::{Ground, Line};
 
 // A ground whose parents are cells of a table, or nothing.
-#[derive(Drop)]
+#[derive(Clone, Copy)]
 pub enum Found {
     At(Ground),
     Nothing,
 }
 
 // What takes a cell apart: the number of links, the bits of a label, and the masks of a set and of a label.
-#[derive(Drop)]
+#[derive(Clone, Copy)]
 pub struct Frame {
     pub links: usize,
     pub bits: usize,
@@ -28,7 +28,7 @@ pub struct Frame {
 }
 
 // The line that is looked for and its place among its point's cells, with the plan's horizon, its frame and the cells of a point.
-#[derive(Drop)]
+#[derive(Clone, Copy)]
 pub struct Search {
     pub horizon: u64,
     pub frame: Frame,
@@ -39,7 +39,7 @@ pub struct Search {
 
 // A rule's row: the points of its parents, the bits that it removes from its first parent's place, and the weight, up less down.
 // Rules of one parent take the weight from its wait; rules 4 and 6 have no up and add down to their second parent's wait.
-#[derive(Drop)]
+#[derive(Clone, Copy)]
 pub struct Row {
     pub first: usize,
     pub second: usize,

@@ -1,5 +1,4 @@
 -- `plan_refusal::refusals::edges_fit` meets its contract: the loop's invariant is that the edges passed fit.
-use Prim.Native.Nat.{◌-◌}
 use native.Mathlib.Omega.{arith}
 use Rattle.plan.proofs.Tests.{passed_none, passed_more, passed_all, passed_not}
 use Rattle.plan_refusal.proofs.refusals.edges_fit.Goals as goal

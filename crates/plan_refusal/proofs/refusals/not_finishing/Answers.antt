@@ -1,5 +1,4 @@
 -- `plan_refusal::refusals::not_finishing` meets its contract: the loop's invariant is that no link passed ends at c.
-use Prim.Native.Nat.{◌-◌}
 use native.Mathlib.Omega.{arith}
 use Rattle.plan.proofs.Tests.{apart_none, apart_more, apart_all, apart_not}
 use Rattle.plan_refusal.proofs.refusals.not_finishing.Goals as goal

@@ -1,5 +1,4 @@
 -- `plan_refusal::refusals::not_observing` meets its contract: the loop's invariant is that no proposition passed is observed at x.
-use Prim.Native.Nat.{◌-◌}
 use native.Mathlib.Omega.{arith}
 use Rattle.plan.proofs.Tests.{apart_none, apart_more, apart_all, apart_not}
 use Rattle.plan_refusal.proofs.refusals.not_observing.Goals as goal

@@ -8,18 +8,20 @@ use Rattle.plan.specs.Bytes.{byte_at}
 use Rattle.plan.specs.Layout.{labels_at, plan_of}
 use Rattle.plan_rows.proofs.RowPlaces.{data_row, row_few, source_first, source_link_end, source_end, source_link, source_data}
 use Rattle.plan_rows.proofs.writing.source_of.Goals as goal
+use Rattle.plan_rows.proofs.writing.source_of.Goals.{After-links-links, Else-i-edge_data}
 
 -- where labels of points would stand, and the number of links
-known : (c : goal.After-links-links) → let bs = c.args.plan.now in (c.labels_at-labels.result ≡ labels_at bs) × (c.links-links.result ≡ byte_at bs 2)
+known : (c : After-links-links) → let bs = c.args.plan.now in (c.labels_at-labels.result ≡ labels_at bs) × (c.links-links.result ≡ byte_at bs 2)
 unfolding plan_of
 known c = (c.labels_at-labels.ensures.0, c.links-links.ensures.0)
 
 -- past the links' data a byte is in the data of a row of the list
-in_data : (c : goal.Else-i-edge_data) →
+in_data : (c : Else-i-edge_data) →
     let s = c.args in
     (s.i - (c.labels_at-labels.result + 2 * c.links-links.result + 2 * length s.rows.now + 4 * c.links-links.result)) / 4 < length s.rows.now
+unfolding plan_of
 in_data c =
-    data_row c.args.plan.now c.args.rows.now _ _ (omega (arith, known (goal.at.HELPER c).After-links-links)) (omega arith) c.requires.i_in_bounds
+    data_row c.args.plan.now c.args.rows.now _ _ (omega (arith, c.labels_at-labels.ensures.0, c.links-links.ensures.0)) (omega arith) c.requires.i_in_bounds
 
 pub returns-then-i-labels : goal.returns-then-i-labels
 returns-then-i-labels c = sym (source_first _ _ _ (omega (arith, known (goal.at.returns-then-i-labels c).After-links-links)))

@@ -1,0 +1,80 @@
+-- `rules_apply::application::apply` meets its contract: the rule is what the match found, and its row is one of at most four links or propositions.
+use mathlib.Core.Path.{◌≡◌, subst}
+use mathlib.Core.List.{List}
+use Prim.Native.Nat.{ℕ, ◌<◌}
+use native.Mathlib.Omega.{arith}
+use Rattle.plan.specs.Plan.{Plan}
+use Rattle.plan.specs.Layout.{plan_of}
+use Rattle.plan.specs.Refusal.{Accepted}
+use Rattle.plan.proofs.Ranges.{accepted_bounded}
+use Rattle.rules.specs.declared.Line.{Line}
+use Rattle.rules.specs.declared.Edge.{Edge}
+use Rattle.rules.specs.declared.Rule.{Rule}
+use Rattle.rules.specs.declared.Rule.TheVariants.{Propagation, LowerCase, UpperCase, LetterRemoval, OwnLiteral, LiteralRemoval}
+use Rattle.rules_apply.specs.declared.Applied.{Applied}
+use Rattle.rules_apply.specs.Applying.{applied}
+use Rattle.rules_apply.specs.Applicable.{Applicable}
+use Rattle.rules.specs.Derivations.{InPlan}
+use Rattle.rules_apply.proofs.ApplyLaws.{in_byte}
+use Rattle.rules_apply.proofs.application.apply.Goals as goal
+
+-- `by` stands for the rule that the match found
+by_rule_lem : (P : Plan) (by r : Rule) (l m : Line) (x : Applied) → by ≡ r → x ≡ applied P r l m → x ≡ applied P by l m
+by_rule_lem P by r l m x e h = rw e h
+
+module _ (bs : List ℕ) (by : Rule) (accepted : Accepted bs) (row : InPlan (plan_of bs) by) where
+  lower_row : (i : ℕ) → by ≡ LowerCase i → i < 4
+  lower_row i q = omega (arith, (accepted_bounded bs accepted).links_in_lem, subst (InPlan (plan_of bs)) q row)
+
+  upper_row : (i : ℕ) → by ≡ UpperCase i → i < 4
+  upper_row i q = omega (arith, (accepted_bounded bs accepted).links_in_lem, subst (InPlan (plan_of bs)) q row)
+
+  letter_row : (i : ℕ) → by ≡ LetterRemoval i → i < 4
+  letter_row i q = omega (arith, (accepted_bounded bs accepted).links_in_lem, subst (InPlan (plan_of bs)) q row)
+
+  own_row : (j : ℕ) → by ≡ OwnLiteral j → j < 4
+  own_row j q = omega (arith, (accepted_bounded bs accepted).propositions_in, subst (InPlan (plan_of bs)) q row)
+
+  literal_row : (j : ℕ) → by ≡ LiteralRemoval j → j < 4
+  literal_row j q = omega (arith, (accepted_bounded bs accepted).propositions_in, subst (InPlan (plan_of bs)) q row)
+
+edge_lent : (bs marks : List ℕ) (horizon : ℕ) (by : Rule) (l m : Line) (e : Edge) → Applicable bs marks horizon by l m → by ≡ Propagation e → Applicable bs marks horizon (Propagation e) l l
+edge_lent bs marks horizon by l m e s q = record { accepted = s.accepted; marked = s.marked; horizon_is = s.horizon_is; row = subst (InPlan (plan_of bs)) q s.row; first_in = s.first_in; second_in = s.first_in }
+
+ruleset rows = (edge_lent, lower_row, upper_row, letter_row, own_row, literal_row, in_byte)
+
+pub apply_edge-requires : goal.apply_edge-requires
+apply_edge-requires c = search rows
+
+pub apply_lower-requires : goal.apply_lower-requires
+apply_lower-requires c = search rows
+
+pub apply_upper-requires : goal.apply_upper-requires
+apply_upper-requires c = search rows
+
+pub apply_letter-requires : goal.apply_letter-requires
+apply_letter-requires c = search rows
+
+pub apply_own_literal-requires : goal.apply_own_literal-requires
+apply_own_literal-requires c = search rows
+
+pub apply_literal-requires : goal.apply_literal-requires
+apply_literal-requires c = search rows
+
+pub returns-in-Propagation : goal.returns-in-Propagation
+returns-in-Propagation c = search by_rule_lem
+
+pub returns-in-LowerCase : goal.returns-in-LowerCase
+returns-in-LowerCase c = search by_rule_lem
+
+pub returns-in-UpperCase : goal.returns-in-UpperCase
+returns-in-UpperCase c = search by_rule_lem
+
+pub returns-in-LetterRemoval : goal.returns-in-LetterRemoval
+returns-in-LetterRemoval c = search by_rule_lem
+
+pub returns-in-OwnLiteral : goal.returns-in-OwnLiteral
+returns-in-OwnLiteral c = search by_rule_lem
+
+pub returns-in-LiteralRemoval : goal.returns-in-LiteralRemoval
+returns-in-LiteralRemoval c = search by_rule_lem
