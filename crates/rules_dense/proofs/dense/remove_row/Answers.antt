@@ -1,0 +1,7 @@
+-- Few steps by halves are few places, and either way makes what the row's rules give.
+use native.Mathlib.Omega.{arith}
+use Rattle.rules_dense.proofs.dense.remove_row.Goals as goal
+
+pub remove_by_halves-requires : goal.remove_by_halves-requires
+remove_by_halves-requires c = let n = c.steps_by_halves.ensures (omega (arith, c.raised_pairs-pairs.ensures)) in
+    record { remove_lent = (c.requires.remove_lent, c.requires.run.1); free_of = (c.free_places-free.ensures, n); noted = c.requires.noted }
