@@ -91,8 +91,8 @@ module _ {bs M : List ℕ} {horizon : ℕ} {F L counts rows : List ℕ} {w mask 
   module _ (B D : List ℕ) where
     pub edge_made : (e : Edge) {Q : Plan} (by : Propagator) → EdgeRow Q e by → constraint_of Q e ≡ constraint_of (plan_with bs horizon) e → D ≡ propagate_in w F mask by.from by.avoid by.add by.up by.down B → D ≡ edge_in_step (plan_with bs horizon) F e B
     unfolding edge_in_step
-    edge_made e by k same =
-        let r = edge_again k same in
+    edge_made e {Q = Q} by k same =
+        let r = edge_again {Q = plan_with bs horizon} k same in
         propagate_by F B D _ _ _ _ _ _ _ _ _ _ _ _ _ _ lent.numbers.width_is lent.numbers.mask_is r.from_is r.avoid_is r.add_is r.up_is r.down_is
 
     pub lower_made : (i : ℕ) (by : Propagator) → LowerRow (plan_of bs) i by → D ≡ propagate_in w F mask by.from by.avoid by.add by.up by.down B → D ≡ lower_in (plan_with bs horizon) F i B
