@@ -33,7 +33,7 @@ fn link_library() {
     println!("cargo:rerun-if-changed={}", library.display());
     if !library.is_file() {
         fail(&format!(
-            "{} is missing; make it with `rt staticlib interface` in the repository's top directory, \
+            "{} is missing; make it with `rt lib` in the repository's directory crates/interface, \
              or name another directory in SULGRACH_LIB_DIR",
             library.display()
         ));
@@ -47,7 +47,7 @@ fn link_library() {
 fn library_directory() -> PathBuf {
     match env::var_os("SULGRACH_LIB_DIR") {
         Some(directory) => PathBuf::from(directory),
-        None => tests_directory().join("../target/staticlib"),
+        None => tests_directory().join("../crates/interface/out"),
     }
 }
 

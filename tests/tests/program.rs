@@ -1,6 +1,6 @@
 //! The program as a process: plans on standard input, text on standard output,
 //! and the exit status, which is 0 for every answer. Its path is
-//! `SULGRACH_PROGRAM`, or else `target/bin/sulgrach` in the repository.
+//! `SULGRACH_PROGRAM`, or else `crates/sulgrach/out/sulgrach` in the repository.
 
 use std::env;
 use std::fs::{self, File, OpenOptions};
@@ -26,7 +26,7 @@ fn repository() -> PathBuf {
 fn path() -> PathBuf {
     match env::var_os("SULGRACH_PROGRAM") {
         Some(path) => PathBuf::from(path),
-        None => repository().join("target/bin/sulgrach"),
+        None => repository().join("crates/sulgrach/out/sulgrach"),
     }
 }
 

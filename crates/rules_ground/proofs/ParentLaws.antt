@@ -1,11 +1,10 @@
 -- Where a ground's parents lie, by their places: what the search passes over holds none.
 use mathlib.Core.Path.{◌≡◌, refl, sym, ap, ap₂, subst, ◌∙◌}
-use mathlib.Core.Bool.{Bool, true, false, not}
+use mathlib.Core.Bool.{Bool, true, false}
 use mathlib.Core.List.{List}
 use Prim.Native.Nat.{ℕ, ◌+◌, ◌-◌, ◌*◌, ◌≤◌, ◌<◌, min}
 use native.Mathlib.Nat.{zero-mod, add_assoc}
 use native.Mathlib.Omega.{arith}
-use borrow.Author.Tests.{not-true, not-false}
 use lib.Bits.{bit_and, bit_or}
 use lib.Dec.{T as Is, ltb}
 use lib.Ieee.Fits.{and_l, and_r, and_i, eq→eqb}
@@ -37,11 +36,11 @@ is : {b : Bool} → b ≡ true → Is b
 is e = subst Is (sym e) tt
 
 module _ (P : Plan) (T : List ℕ) (k : Line) (r : Rule) (l : Line) (d : ℕ) where
-  pub pair_empty : (b : Bool) → b ≡ holds_line P T d → not b ≡ true → false ≡ gives_with P T k r l d
-  pair_empty b e t = rw (← e, not-true b t)
+  pub pair_empty : (b : Bool) → b ≡ holds_line P T d → b ≡ false → false ≡ gives_with P T k r l d
+  pair_empty b e t = rw (← e, t)
 
-  pub pair_tested : (m : Line) (b g : Bool) → b ≡ holds_line P T d → not b ≡ false → m ≡ line_at P T d → g ≡ gives_line_of P r l m k → g ≡ gives_with P T k r l d
-  pair_tested m b g e t q h = rw (← e, not-false b t, ← q) h
+  pub pair_tested : (m : Line) (b g : Bool) → b ≡ holds_line P T d → b ≡ true → m ≡ line_at P T d → g ≡ gives_line_of P r l m k → g ≡ gives_with P T k r l d
+  pair_tested m b g e t q h = rw (← e, t, ← q) h
 
 module _ (P : Plan) (T : List ℕ) (k : Line) (r : Rule) (c d : ℕ) where
   pub pair_grounds : (l : Line) (b : Bool) → InPlan P r → c < cells P → Is (holds_line P T c) → d < cells P → l ≡ line_at P T c → b ≡ gives_with P T k r l d → b ≡ true → SecondAt P T k r c d
@@ -70,16 +69,16 @@ module _ (P : Plan) (T : List ℕ) where
   unfolding holds_line
   start_holds = or_right (ltb 0 (get_or T 0 0)) _ (eq→eqb (zero-mod (width P)))
 
-  pub holding : (c : ℕ) (b : Bool) → b ≡ holds_line P T c → not b ≡ false → Is (holds_line P T c)
-  holding c b e t = is (sym e ∙ not-false b t)
+  pub holding : (c : ℕ) (b : Bool) → b ≡ holds_line P T c → b ≡ true → Is (holds_line P T c)
+  holding c b e t = is (sym e ∙ t)
 
   -- a cell among the cells of point x, by its line's place
   cell_there : (c x : ℕ) → (line_at P T c).point ≡ x → c ≡ x * width P + place_of P (line_at P T c)
   cell_there c x e = rw (← e) (omega (arith, cell_at P T c))
 
   module _ (k : Line) (c : ℕ) where
-    pub empty_first : (r : Rule) (d : ℕ) (b : Bool) → b ≡ holds_line P T c → not b ≡ true → SecondAt P T k r c d → ⊥
-    empty_first r d b e t g = is_not (sym e ∙ not-true b t) g.first_line_lem
+    pub empty_first : (r : Rule) (d : ℕ) (b : Bool) → b ≡ holds_line P T c → b ≡ false → SecondAt P T k r c d → ⊥
+    empty_first r d b e t g = is_not (sym e ∙ t) g.first_line_lem
 
     -- a rule of one parent takes cell 0 as its second
     start_second : (r : Rule) → uses_second r ≡ false → 0 < cells P → (d : ℕ) → SecondAt P T k r c d → SecondAt P T k r c 0

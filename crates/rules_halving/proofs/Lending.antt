@@ -3,11 +3,11 @@ use mathlib.Core.Path.{◌≡◌, refl, sym, ap, subst, ◌∙◌}
 use mathlib.Core.List.{List, ◌++◌}
 use Prim.Native.Nat.{ℕ, zero, suc, ◌+◌, ◌-◌, ◌/◌, ◌^◌, ◌≤◌, ◌<◌}
 use native.Mathlib.Omega.{arith}
-use borrow.Rule.Slice.PartMut.{put_mid, same_len_mid}
-use lib.ListN.{length, get_or, take, drop, length-drop, length-append}
+use borrow.Rule.Slice.PartMut.{put_mid}
+use lib.ListN.{length, get_or, take, drop, length-drop}
 use lib.Seq.{take_at, drop_at, take-take, length-take-le}
 use Rattle.rules_fill.proofs.Laying.{lent_part, lent_back}
-use Rattle.rules_halving.specs.Products.{Product, PairsLent, HalveLent, JoinLent, Joined}
+use Rattle.rules_halving.specs.Products.{Product, PairsLent, HalveLent, Joined}
 use Rattle.rules_halving.proofs.Loops.{below_same}
 use Rattle.rules_halving.proofs.ThreeHalves.{three_halves}
 
@@ -56,9 +56,6 @@ module _ {n z from top : ℕ} {F G H : List ℕ} (lent : HalveLent n F G from H 
     long_low : length L ≡ z
     long_low = long_first ∙ sym (low_long H lent.pairs.long_third)
 
-    pub long_once : length H₁ ≡ n
-    long_once = length-append L (drop z H) ∙ omega (arith, long_low, high_long H lent.pairs.long_third, h.twice)
-
     part_once : take (length H₁ - z) (drop z H₁) ≡ drop z H
     part_once = part_of z L (drop z H) H₁ long_low refl
 
@@ -72,23 +69,14 @@ module _ {n z from top : ℕ} {F G H : List ℕ} (lent : HalveLent n F G from H 
       abbrev H₂ : List ℕ
       H₂ = put_mid z (length H₁ - z) H₁ U
 
-      pub join_lent : {G₂ : List ℕ} → length G₂ ≡ length G → JoinLent G₂ from z top
-      join_lent e = record { below_top = omega (arith, h.twice, lent.below_top); room = omega (arith, h.twice, lent.room) }
-
       twice_is : H₂ ≡ L ++ U
       twice_is = put_back z L (drop z H) H₁ U long_low refl
 
       part_twice : take (length H₂ - z) (drop z H₂) ≡ U
       part_twice = part_of z L U H₂ long_low twice_is
 
-      pub long_twice : length H₂ ≡ n
-      long_twice = same_len_mid z (length H₁ - z) H₁ U long_second ∙ long_once
-
       pub third_lent : {G₃ : List ℕ} {at : ℕ} → length G₃ ≡ length G → at ≤ top → HalveLent z (take (length F - z) (drop z F)) G₃ at (take (length H₂ - z) (drop z H₂)) (top + z)
       third_lent e i = half_lent (ap length (lent_part z F) ∙ high_long F lent.pairs.long_first) (ap length part_twice ∙ long_second ∙ long_part) (omega arith) (omega (arith, h.twice, lent.room))
-
-      pub long_thrice : (U' : List ℕ) → length U' ≡ length (take (length H₂ - z) (drop z H₂)) → length (put_mid z (length H₂ - z) H₂ U') ≡ length H
-      long_thrice U' e = same_len_mid z (length H₂ - z) H₂ U' e ∙ long_twice ∙ sym lent.pairs.long_third
 
   -- what the three calls and the joined run make is what all pairs give
   module _ (G₁ L : List ℕ) (first : Made z (take z F) G from (take z H) top G₁ L) (G₂ U : List ℕ) (second : Made z (take z F) G₁ (from + z) (take (length (L ++ drop z H) - z) (drop z (L ++ drop z H))) top G₂ U)

@@ -1,6 +1,5 @@
 -- The loop's invariant: the rows with mark 1 among those passed are listed.
 use mathlib.Core.Path.{◌≡◌}
-use Prim.Native.Nat.{◌-◌}
 use native.Mathlib.Omega.{arith}
 use Rattle.plan_rows.proofs.Listed.{listed_none, listed_more, listed_same}
 use Rattle.plan_rows.proofs.writing.marked_rows.Goals as goal
@@ -10,11 +9,13 @@ pub loop-i-init : goal.loop-i-init
 loop-i-init c = (omega arith, listed_none _ _)
 
 pub loop-i-preserved : goal.loop-i-preserved
-loop-i-preserved c = let l = c.loop-i.invariant.1 in
-    (omega arith, elim c.if-marks-i-eq1.branch [
-      then-marks-i-eq1 w ↦ listed_more l (omega arith) (omega arith) w.if-marks-i-eq1.true w.numbers-is w.count-is
+loop-i-preserved c = let l = c.loop-i.invariant.1 in (
+  omega arith,
+  elim c.if-marks-i-eq1.branch [
+    | then-marks-i-eq1 w ↦ listed_more l (omega arith) (omega arith) w.if-marks-i-eq1.true w.numbers-is w.count-is
     | else-marks-i-eq1 w ↦ listed_same l (omega arith) w.if-marks-i-eq1.false w.numbers-is w.count-is
-    ])
+  ],
+)
 
 pub shape_of-numbers : goal.shape_of-numbers
 shape_of-numbers c = c.loop-i.invariant.1.begun.length_is

@@ -1,5 +1,4 @@
 -- The loop's invariant: the bytes passed are written.
-use Prim.Native.Nat.{◌-◌}
 use native.Mathlib.Omega.{arith}
 use Rattle.plan.specs.Layout.{length_for}
 use Rattle.plan_rows.proofs.Written.{written_none, written_more, written_all}

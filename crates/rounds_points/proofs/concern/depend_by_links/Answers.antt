@@ -1,6 +1,5 @@
 -- The loop's invariant: the links passed are in the sets, both ways, and the sets have lost no point.
 use mathlib.Core.Path.{refl, ◌∙◌}
-use Prim.Native.Nat.{◌-◌}
 use native.Mathlib.Omega.{arith}
 use Rattle.plan.specs.Layout.{plan_of}
 use Rattle.plan.proofs.Ranges.{accepted_well_formed}

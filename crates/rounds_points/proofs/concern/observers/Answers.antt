@@ -1,5 +1,4 @@
 -- The loop's invariant: the set has the observing points of the propositions passed.
-use Prim.Native.Nat.{◌-◌}
 use native.Mathlib.Omega.{arith}
 use Rattle.plan.specs.Layout.{plan_of}
 use Rattle.plan.proofs.Ranges.{accepted_well_formed, accepted_bounded}

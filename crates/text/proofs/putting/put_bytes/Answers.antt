@@ -1,5 +1,4 @@
 -- The loop's invariant: the bytes passed are put.
-use Prim.Native.Nat.{◌-◌}
 use native.Mathlib.Omega.{arith}
 use lib.Seq.{take_all}
 use borrow.Author.Rules.{rules}
