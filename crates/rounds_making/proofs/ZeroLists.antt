@@ -21,6 +21,7 @@ unfolding count_below
 count_none f zero h i = go (f 0) i
   where
     go : (b : Bool) → Is b → ◌≡◌ {A = ℕ} 1 (cond b 1 0)
+    go false j = elim j [ ]
     go true j = refl
 count_none f (suc n) h i = rw (h (suc n) (omega arith) (omega arith)) (count_none f n (λ c p k. h c p (omega arith)) i)
 
