@@ -33,17 +33,17 @@ module _ (D : Devices) (bs cs : List ℕ) (k : ℕ) (e : k ≡ refusal bs) where
   unfolding class_refusal
   by_plan n = rw (← e, ne_eqb k 0 n) refl
 
-  -- the two tests as the code has them: called, and then negated
+  -- the two tests as the code has them
   module _ (z : k ≡ 0) (fit : Bool) (f : fit ≡ classes_fit D (plan_of bs) cs) where
-    pub by_list : not fit ≡ true → 14 ≡ class_refusal D bs cs
+    pub by_list : fit ≡ false → 14 ≡ class_refusal D bs cs
     unfolding class_refusal
     by_list t = rw (← e, eq-eqb k 0 z, denied f t) refl
 
-    module _ (t : not fit ≡ false) (wide : Bool) (w : wide ≡ every (wide_enough D (plan_of bs) cs) (plan_of bs).links) where
-      pub by_width : not wide ≡ true → 15 ≡ class_refusal D bs cs
+    module _ (t : fit ≡ true) (wide : Bool) (w : wide ≡ every (wide_enough D (plan_of bs) cs) (plan_of bs).links) where
+      pub by_width : wide ≡ false → 15 ≡ class_refusal D bs cs
       unfolding class_refusal
       by_width u = rw (← e, eq-eqb k 0 z, granted f t, denied w u) refl
 
-      pub by_none : not wide ≡ false → 0 ≡ class_refusal D bs cs
+      pub by_none : wide ≡ true → 0 ≡ class_refusal D bs cs
       unfolding class_refusal
       by_none u = rw (← e, eq-eqb k 0 z, granted f t, granted w u) refl
