@@ -1,8 +1,7 @@
 -- For inner contracts only: what the functions that count and write a listing are lent and leave. Nothing here is to be believed.
 use Rattle.std.specs.Prelude.{◌≡◌, List, ◌++◌, ℕ, suc, ◌+◌, ◌≤◌, ◌<◌, min, T as Is, length, get_or}
-use Rattle.std.specs.Borrow.{Bor}
+use Rattle.std.specs.Borrow.{Bor, MutBor}
 use denote.Triple.Both.{Both}
-use Rattle.plan.specs.Moments.{before, after}
 use Rattle.plan.specs.Label.{Marks}
 use Rattle.plan.specs.Plan.{Plan, cells}
 use Rattle.plan.specs.Layout.{plan_of}
@@ -76,8 +75,8 @@ abbrev pub CellNumbered : List ℕ → List ℕ → ℕ → ℕ → List ℕ →
 CellNumbered T U i c I I' = (P : Plan) (at : ℕ) → i ≡ P.points + at → c < cells P → Numbered P at (cell_lines P T U c) I I'
 
 -- ---- the two of what is lent to a call
-abbrev pub Appends : {X : Type 0} → Both (Bor (List ℕ)) X → ℕ → List Line → Both (Bor (List ℕ)) (Bor (List ℕ)) → Type 0
-Appends plan at ks out = Appended (plan_of (before plan)) at ks (before out) (after out)
+abbrev pub Appends : {X : Type 0} → Both (Bor (List ℕ)) X → ℕ → List Line → Both (MutBor (List ℕ)) (MutBor (List ℕ)) → Type 0
+Appends plan at ks out = Appended (plan_of plan.entry.now) at ks out.entry.now out.exit.now
 
-abbrev pub Numbers : {X : Type 0} → Both (Bor (List ℕ)) X → ℕ → List Line → Both (Bor (List ℕ)) (Bor (List ℕ)) → Type 0
-Numbers plan at ks index = Numbered (plan_of (before plan)) at ks (before index) (after index)
+abbrev pub Numbers : {X : Type 0} → Both (Bor (List ℕ)) X → ℕ → List Line → Both (MutBor (List ℕ)) (MutBor (List ℕ)) → Type 0
+Numbers plan at ks index = Numbered (plan_of plan.entry.now) at ks index.entry.now index.exit.now

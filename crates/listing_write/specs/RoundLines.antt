@@ -1,8 +1,7 @@
 -- For inner contracts only: what the functions that make the rounds again with their lines are lent and leave. Nothing here is to be believed.
 use Rattle.std.specs.Prelude.{◌≡◌, List, [], ◌∷◌, ℕ, suc, ◌+◌, ◌-◌, ◌≤◌, ◌<◌, length, get_or}
-use Rattle.std.specs.Borrow.{Bor}
+use Rattle.std.specs.Borrow.{Bor, MutBor}
 use denote.Triple.Both.{Both}
-use Rattle.plan.specs.Moments.{before, after}
 use Rattle.plan.specs.Plan.{Plan, width, cells}
 use Rattle.plan.specs.Layout.{plan_of}
 use Rattle.plan.specs.Refusal.{Accepted}
@@ -92,12 +91,12 @@ pub record RoundsListed (P : Plan) (r : ℕ) (first second index out first' seco
 
 -- ---- of what is lent to a call
 abbrev Lent : Type 0
-Lent = Both (Bor (List ℕ)) (Bor (List ℕ))
+Lent = Both (MutBor (List ℕ)) (MutBor (List ℕ))
 
 abbrev pub ListsRound : {X : Type 0} → Both (Bor (List ℕ)) X → List Line → ℕ → Lent → Lent → Lent → Lent → Type 0
 ListsRound plan ks at first second index out =
-    RoundListed (plan_of (before plan)) ks at (before first) (before second) (before index) (before out) (after first) (after second) (after index) (after out)
+    RoundListed (plan_of plan.entry.now) ks at first.entry.now second.entry.now index.entry.now out.entry.now first.exit.now second.exit.now index.exit.now out.exit.now
 
 abbrev pub ListsRounds : {X : Type 0} → Both (Bor (List ℕ)) X → ℕ → Lent → Lent → Lent → Lent → Type 0
 ListsRounds plan r first second index out =
-    RoundsListed (plan_of (before plan)) r (before first) (before second) (before index) (before out) (after first) (after second) (after index) (after out)
+    RoundsListed (plan_of plan.entry.now) r first.entry.now second.entry.now index.entry.now out.entry.now first.exit.now second.exit.now index.exit.now out.exit.now

@@ -21,9 +21,11 @@ count_rounds-lines-requires c = let e = c.cells-end in
     record { exact = record { accepted = c.requires.accepted; marked = m.ensures; horizon_is = h.ensures.0; first_length = c.clear_cells.ensures.same_length ∙ c.requires.first_length; second_length = c.requires.second_length }; breaks = breaks_last P c.args.r c.requires.breaks; first_is = clear_exact P e.result c.args.first.now _ e.ensures c.requires.first_length c.clear_cells.ensures.table_value }
 
 pub count_round-requires : goal.count_round-requires
-count_round-requires c = let x = count_rounds_requires (goal.at.count_round-requires c).After-count_rounds-arg-2-1 κs in
+count_round-requires c = let e = c.cells-end in
+    let h = c.horizon-horizon in
+    let m = c.plain_marks-marks in
     let l = last_lent c.args.plan.now c.requires.accepted c.args.r c.requires.breaks c.count_rounds-lines.result _ c.count_rounds-lines.ensures.value c.count_rounds-lines.ensures.first_value in
-    (exact_on _ _ _ _ _ x.exact _ _ c.count_rounds-lines.ensures.same_length c.count_rounds-lines.ensures.same_length_2, l.0, l.1)
+    (exact_on _ _ _ _ _ (record { accepted = c.requires.accepted; marked = m.ensures; horizon_is = h.ensures.0; first_length = c.clear_cells.ensures.same_length ∙ c.requires.first_length; second_length = c.requires.second_length }) _ _ c.count_rounds-lines.ensures.same_length c.count_rounds-lines.ensures.same_length_2, l.0, l.1)
 
 pub returns : goal.returns
 returns c = let z = c.clear_cells in

@@ -1,6 +1,6 @@
 -- The loop's invariant: the waits of the places passed are laid down. Place 0 is set apart.
 use mathlib.Core.Path.{refl}
-use Prim.Native.Nat.{◌+◌, ◌-◌}
+use Prim.Native.Nat.{◌+◌}
 use native.Mathlib.Omega.{arith}
 use lib.ListN.{length-set}
 use Rattle.rules_dense.proofs.FreePlaces.{count_pos, first_in}

@@ -1,10 +1,8 @@
 -- The loop's invariant: the steps of the values passed are made.
 use mathlib.Core.Path.{refl, ◌∙◌}
-use Prim.Native.Nat.{◌-◌}
 use native.Mathlib.Omega.{arith}
 use Rattle.rules_fill.proofs.StepLaws.{steps_none}
 use Rattle.rules_fill.proofs.ShapeLaws.{done}
-use Rattle.rules_dense.specs.Gathered.{own_value}
 use Rattle.rules_dense.proofs.FreePlaces.{times_pos}
 use Rattle.rules_dense.proofs.GatherLaws.{value_on}
 use Rattle.rules_dense.proofs.gather.gather_own.Goals as goal

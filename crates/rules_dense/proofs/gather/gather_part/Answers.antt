@@ -1,6 +1,5 @@
 -- The loop's invariant: the waits of the places passed are laid down.
 use mathlib.Core.Path.{refl}
-use Prim.Native.Nat.{◌-◌}
 use native.Mathlib.Omega.{arith}
 use lib.ListN.{length-set}
 use Rattle.rules_dense.proofs.GatherLaws.{filled_none, filled_by, part_on}

@@ -1,6 +1,5 @@
 -- The loop's invariant: the steps of the places passed are made.
 use mathlib.Core.Path.{refl}
-use Prim.Native.Nat.{◌-◌}
 use native.Mathlib.Omega.{arith}
 use lib.ListN.{length-set}
 use Rattle.rules_fill.proofs.StepLaws.{steps_none}

@@ -1,6 +1,5 @@
 -- The loop's invariant: the steps of the places passed are made, and the cells that they raised are noted.
 use mathlib.Core.Path.{refl, ◌∙◌}
-use Prim.Native.Nat.{◌-◌}
 use native.Mathlib.Omega.{arith}
 use Rattle.rules_fill.proofs.StepLaws.{steps_none}
 use Rattle.rules_fill.proofs.ShapeLaws.{done}

@@ -1,6 +1,6 @@
 -- The loop's invariant: the steps of the raised cells passed are made.
 use mathlib.Core.Path.{refl, sym, ◌∙◌}
-use Prim.Native.Nat.{◌-◌, ◌≤◌}
+use Prim.Native.Nat.{◌≤◌}
 use native.Mathlib.Omega.{arith}
 use Rattle.rules_fill.proofs.ShapeLaws.{cleared_le, clear_pass, clear_goes, clear_step}
 use Rattle.rules_listed.proofs.Going.{place_in, going_none, going_on, going_past, going_by, gone}
@@ -45,11 +45,10 @@ loop-i-smaller c = omega arith
 
 pub loop-i-preserved : goal.loop-i-preserved
 loop-i-preserved c = let g = c.loop-i.invariant.1 in
-    let t = c.widen_word-c in
-    (
+    let t = c.widen_word-c in (
       omega arith,
       elim c.if-touches.branch [
-        then-touches w ↦ going_by (going_on g _ _ (omega arith) t.ensures.0 (clear_step _ _ _ _ _ _ _ _ w.cell_at.ensures.0 (clear_goes _ _ _ _ _ _ (sym c.touches.ensures ∙ w.if-touches.true) w.cleared-rest.ensures w.raise-noted.ensures.part_value)) w.raise-noted.ensures.noted_2 w.raise-noted.ensures.same_length.0 w.raise-noted.ensures.same_length.1) w.part-is w.notes-is w.noted-is
+        | then-touches w ↦ going_by (going_on g _ _ (omega arith) t.ensures.0 (clear_step _ _ _ _ _ _ _ _ w.cell_at.ensures.0 (clear_goes _ _ _ _ _ _ (sym c.touches.ensures ∙ w.if-touches.true) w.cleared-rest.ensures w.raise-noted.ensures.part_value)) w.raise-noted.ensures.noted_2 w.raise-noted.ensures.same_length.0 w.raise-noted.ensures.same_length.1) w.part-is w.notes-is w.noted-is
         | else-touches w ↦ going_by (going_past g _ _ (omega arith) t.ensures.0 (clear_step _ _ _ _ _ _ _ _ refl (clear_pass _ _ _ _ (sym c.touches.ensures ∙ w.if-touches.false)))) w.part-is w.notes-is w.noted-is
       ],
     )

@@ -1,5 +1,5 @@
 -- The loop's invariant: the steps of the raised cells passed are made.
-use Prim.Native.Nat.{◌+◌, ◌-◌, ◌*◌, ◌≤◌, ◌<◌}
+use Prim.Native.Nat.{◌+◌, ◌*◌, ◌≤◌, ◌<◌}
 use native.Mathlib.Omega.{arith}
 use lib.Bits.{bit_or}
 use Rattle.rules_fill.proofs.ShapeLaws.{propagated_le, propagate_step_lem}

@@ -1,6 +1,5 @@
 -- The loop's invariant: the steps of the other point's raised cells passed are made.
 use mathlib.Core.Path.{sym, ◌∙◌}
-use Prim.Native.Nat.{◌-◌}
 use native.Mathlib.Omega.{arith}
 use Rattle.rules_listed.proofs.Going.{place_in, going_none, going_on, going_past, going_by, gone}
 use Rattle.rules_listed.proofs.Removing.{other_goes, other_pass}
@@ -42,11 +41,10 @@ loop-i-smaller c = omega arith
 
 pub loop-i-preserved : goal.loop-i-preserved
 loop-i-preserved c = let g = c.loop-i.invariant.1 in
-    let u = c.widen_word-u in
-    (
+    let u = c.widen_word-u in (
       omega arith,
       elim c.if-not-touches.branch [
-        then-not-touches w ↦ going_by (going_on g _ _ (omega arith) u.ensures.0 (other_goes _ _ _ _ _ _ _ _ _ _ (sym c.touches.ensures ∙ w.if-not-touches.true) w.cell_at.ensures.0 w.remove_from_lines-noted.ensures.part_value) w.remove_from_lines-noted.ensures.noted_2 w.remove_from_lines-noted.ensures.same_length.0 w.remove_from_lines-noted.ensures.same_length.1) w.part-is w.notes-is w.noted-is
+        | then-not-touches w ↦ going_by (going_on g _ _ (omega arith) u.ensures.0 (other_goes _ _ _ _ _ _ _ _ _ _ (sym c.touches.ensures ∙ w.if-not-touches.true) w.cell_at.ensures.0 w.remove_from_lines-noted.ensures.part_value) w.remove_from_lines-noted.ensures.noted_2 w.remove_from_lines-noted.ensures.same_length.0 w.remove_from_lines-noted.ensures.same_length.1) w.part-is w.notes-is w.noted-is
         | else-not-touches w ↦ going_by (going_past g _ _ (omega arith) u.ensures.0 (other_pass _ _ _ _ _ _ _ _ (sym c.touches.ensures ∙ w.if-not-touches.false))) w.part-is w.notes-is w.noted-is
       ],
     )

@@ -1,6 +1,6 @@
 -- The loop's invariant: the steps of the lines of point x passed are made.
 use mathlib.Core.Path.{sym, ◌∙◌}
-use Prim.Native.Nat.{◌-◌, ◌≤◌, ◌<◌}
+use Prim.Native.Nat.{◌≤◌, ◌<◌}
 use native.Mathlib.Omega.{arith}
 use lib.Bits.{bit_or}
 use Rattle.rules_fill.proofs.ShapeLaws.{cleared_le, removed_le}
@@ -55,11 +55,10 @@ loop-i-smaller c = omega arith
 
 pub loop-i-preserved : goal.loop-i-preserved
 loop-i-preserved c = let g = c.loop-i.invariant.1 in
-    let t = c.widen_word-c in
-    (
+    let t = c.widen_word-c in (
       omega arith,
       elim c.if-touches.branch [
-        then-touches w ↦ going_by (going_on g _ _ (omega arith) t.ensures.0 (own_goes _ _ _ _ _ _ _ _ _ _ _ _ (sym c.touches.ensures ∙ w.if-touches.true) w.cell_at.ensures.0 w.cleared.ensures w.removed-w.ensures (rw w.joined.ensures at w.raise-noted.ensures.part_value)) w.raise-noted.ensures.noted_2 w.raise-noted.ensures.same_length.0 w.raise-noted.ensures.same_length.1) w.part-is w.notes-is w.noted-is
+        | then-touches w ↦ going_by (going_on g _ _ (omega arith) t.ensures.0 (own_goes _ _ _ _ _ _ _ _ _ _ _ _ (sym c.touches.ensures ∙ w.if-touches.true) w.cell_at.ensures.0 w.cleared.ensures w.removed-w.ensures (rw w.joined.ensures at w.raise-noted.ensures.part_value)) w.raise-noted.ensures.noted_2 w.raise-noted.ensures.same_length.0 w.raise-noted.ensures.same_length.1) w.part-is w.notes-is w.noted-is
         | else-touches w ↦ going_by (going_past g _ _ (omega arith) t.ensures.0 (own_pass _ _ _ _ _ _ _ _ (sym c.touches.ensures ∙ w.if-touches.false))) w.part-is w.notes-is w.noted-is
       ],
     )

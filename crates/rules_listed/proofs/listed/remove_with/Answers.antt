@@ -1,9 +1,8 @@
 -- The loop's invariant: the steps of the other point's lines passed are made.
 use mathlib.Core.Path.{sym, ◌∙◌}
-use Prim.Native.Nat.{◌-◌, ◌≤◌, ◌<◌}
+use Prim.Native.Nat.{◌≤◌, ◌<◌}
 use native.Mathlib.Omega.{arith}
 use lib.Bits.{bit_or}
-use borrow.Author.Tests.{not-false}
 use Rattle.rules_fill.proofs.ShapeLaws.{removed_le, remove_step_lem, remove_pass}
 use Rattle.rules_listed.proofs.Going.{place_in, going_none, going_on, going_past, going_by, gone}
 use Rattle.rules_listed.proofs.listed.remove_with.Goals.{then-not-touches, else-not-touches}
@@ -56,11 +55,10 @@ loop-i-smaller c = omega arith
 
 pub loop-i-preserved : goal.loop-i-preserved
 loop-i-preserved c = let g = c.loop-i.invariant.1 in
-    let u = c.widen_word-u in
-    (
+    let u = c.widen_word-u in (
       omega arith,
       elim c.if-not-touches.branch [
-        then-not-touches w ↦ going_by (going_on g _ _ (omega arith) u.ensures.0 (remove_step_lem _ _ _ _ _ _ _ _ _ _ _ _ w.cell_at.ensures.0 w.removed-w.ensures (rw w.joined.ensures at w.raise-noted.ensures.part_value)) w.raise-noted.ensures.noted_2 w.raise-noted.ensures.same_length.0 w.raise-noted.ensures.same_length.1) w.part-is w.notes-is w.noted-is
+        | then-not-touches w ↦ going_by (going_on g _ _ (omega arith) u.ensures.0 (remove_step_lem _ _ _ _ _ _ _ _ _ _ _ _ w.cell_at.ensures.0 w.removed-w.ensures (rw w.joined.ensures at w.raise-noted.ensures.part_value)) w.raise-noted.ensures.noted_2 w.raise-noted.ensures.same_length.0 w.raise-noted.ensures.same_length.1) w.part-is w.notes-is w.noted-is
         | else-not-touches w ↦ going_by (going_past g _ _ (omega arith) u.ensures.0 (remove_pass _ _ _ _ _ _ _ _ _ (sym c.touches.ensures ∙ w.if-not-touches.false))) w.part-is w.notes-is w.noted-is
       ],
     )

@@ -1,6 +1,5 @@
 -- The loop's invariant: the points passed have no first edge.
 use mathlib.Core.Path.{refl, ◌∙◌}
-use Prim.Native.Nat.{◌-◌}
 use native.Mathlib.Omega.{arith}
 use Rattle.rules_fill.proofs.StepLaws.{steps_none}
 use Rattle.rules_fill.proofs.ShapeLaws.{step_made, done}
