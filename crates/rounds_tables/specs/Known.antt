@@ -1,6 +1,6 @@
 -- For inner contracts only: what a round leaves in its notes, and what is known of a table between two rounds. Nothing here is to be believed.
 use Rattle.std.specs.Prelude.{◌≡◌, Bool, false, List, ℕ, ◌+◌, ◌*◌, ◌^◌, ◌≤◌, ◌<◌, T as Is, length, get_or, drop}
-use Rattle.plan.specs.Plan.{Plan, cells}
+use Rattle.plan.specs.Plan.{Plan}
 use Rattle.rules_fill.specs.Shapes.{is_line}
 use Rattle.rules_fill.specs.Parts.{laid_over}
 use Rattle.rules_listed.specs.Places.{Places}

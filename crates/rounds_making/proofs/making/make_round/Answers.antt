@@ -10,7 +10,7 @@ pub settle-changed-requires : goal.settle-changed-requires
 settle-changed-requires c = settle_lends c.requires _ _ _ _ c.points-n.ensures.0 c.next_round.ensures.second_value c.next_round.ensures.round_noted c.next_round.ensures.same_length.0 c.next_round.ensures.same_length.1
 
 pub stops-requires : goal.stops-requires
-stops-requires c = 
+stops-requires c =
     let r = stops_lends c.requires _ _ _ _ c.points-n.ensures.0 c.next_round.ensures.second_value c.next_round.ensures.round_noted c.next_round.ensures.same_length.0 _ _ _ _ _ c.settle-changed.ensures.after_settle c.settle-changed.ensures.same_length.3 c.settle-changed.ensures.same_length.0 in
     record { points_bound = r.0; same_outside = r.1 }
 

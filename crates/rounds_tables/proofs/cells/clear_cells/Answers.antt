@@ -1,6 +1,6 @@
 -- The loop's invariant: zeros are laid over the cells passed.
 use mathlib.Core.Path.{◌≡◌, refl, ap, ◌∙◌}
-use Prim.Native.Nat.{ℕ, ◌-◌}
+use Prim.Native.Nat.{ℕ}
 use native.Mathlib.Omega.{arith}
 use lib.ListN.{replicate, length-set}
 use Rattle.rules_fill.specs.Parts.{laid_over}

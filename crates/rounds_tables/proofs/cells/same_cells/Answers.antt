@@ -1,6 +1,6 @@
 -- The loops' invariants: the cells passed agree, and a point's row lies within the tables.
 use mathlib.Core.Path.{◌≡◌, refl, sym, ◌∙◌}
-use Prim.Native.Nat.{◌+◌, ◌*◌, ◌-◌}
+use Prim.Native.Nat.{◌+◌, ◌*◌}
 use native.Mathlib.Nat.{zero-mul, add-zero, add_assoc}
 use native.Mathlib.Omega.{arith}
 use Rattle.rounds_tables.proofs.Comparing.{eq_same}

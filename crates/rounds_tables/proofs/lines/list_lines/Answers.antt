@@ -1,5 +1,4 @@
 -- The loop's invariant: the lines of the points passed are listed.
-use Prim.Native.Nat.{◌-◌}
 use native.Mathlib.Omega.{arith}
 use lib.ListN.{length-set}
 use Rattle.rounds_tables.proofs.RoundLaws.{row_within}

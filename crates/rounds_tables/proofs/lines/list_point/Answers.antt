@@ -1,9 +1,8 @@
 -- The loop's invariant: the lines of the cells passed are listed twice.
 use mathlib.Core.Path.{◌≡◌}
-use Prim.Native.Nat.{◌+◌, ◌*◌, ◌-◌, ◌≤◌}
+use Prim.Native.Nat.{◌+◌, ◌*◌, ◌≤◌}
 use native.Mathlib.Omega.{arith}
 use lib.ListN.{length-set}
-use borrow.Author.Tests.{eqb-true, eqb-false, not-true, not-false}
 use Rattle.rounds_tables.proofs.LineLists.{some_line, start_line, no_line, listed_none, listed_more, listed_same}
 use Rattle.rounds_tables.proofs.lines.list_point.Goals.{then-c-eq0, then-c-eq0-via-then-c-eq0, then-c-eq0-via-else-c-eq0+then-table-base-ne0, else-c-eq0+else-table-base-ne0}
 use Rattle.rounds_tables.proofs.lines.list_point.Goals as goal
@@ -20,7 +19,7 @@ pub loop-c-preserved : goal.loop-c-preserved
 loop-c-preserved c =
     let i = c.loop-c.invariant in
     elim c.if-c-eq0.branch [
-      then-c-eq0 w ↦
+      | then-c-eq0 w ↦
           let r = listed_more _ _ _ _ _ _ i.3 i.4 _ _ _ (omega arith) i.5 _ _ (elim w.then-c-eq0.branch [ then-c-eq0-via-then-c-eq0 v ↦ start_line _ _ v.if-c-eq0.true | then-c-eq0-via-else-c-eq0+then-table-base-ne0 v ↦ some_line _ _ v.if-table-base-ne0.true ]) w.lists-is w.n-is in
           (omega arith, r.1, i.2, i.3, i.4, r.0)
       | else-c-eq0+else-table-base-ne0 w ↦

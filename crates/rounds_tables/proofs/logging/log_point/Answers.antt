@@ -1,6 +1,5 @@
 -- The loop's invariant: the entries of the cells passed are in the log, as far as it is long.
 use mathlib.Core.Path.{◌≡◌, refl, ◌∙◌}
-use Prim.Native.Nat.{◌-◌}
 use native.Mathlib.Omega.{arith}
 use Rattle.rounds_tables.proofs.LogLaws.{grew_none, grew_cell}
 use Rattle.rounds_tables.proofs.logging.log_point.Goals as goal

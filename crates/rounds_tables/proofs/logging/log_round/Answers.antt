@@ -1,6 +1,5 @@
 -- The loop's invariant: the entries of the points passed are in the log, as far as it is long.
 use mathlib.Core.Path.{◌≡◌, refl, ◌∙◌}
-use Prim.Native.Nat.{◌-◌}
 use native.Mathlib.Omega.{arith}
 use Rattle.rounds_tables.proofs.RoundLaws.{row_within}
 use Rattle.rounds_tables.proofs.LogLaws.{logged_empty, grew_start, grew_point, grew_unnoted, grew_as, round_logged}
@@ -21,7 +20,7 @@ pub loop-x-preserved : goal.loop-x-preserved
 loop-x-preserved c =
     let i = c.loop-x.invariant in
     elim c.if-noted-x-ne0.branch [
-      then-noted-x-ne0 w ↦ let r = grew_as _ _ _ _ _ _ _ _ w.log-is w.end-is (w.log_point-end.ensures.same_length ∙ i.1) (grew_point _ _ _ _ _ _ _ _ _ _ i.2 w.log_point-end.ensures.log_grew) in (omega arith, r.0, r.1)
+      | then-noted-x-ne0 w ↦ let r = grew_as _ _ _ _ _ _ _ _ w.log-is w.end-is (w.log_point-end.ensures.same_length ∙ i.1) (grew_point _ _ _ _ _ _ _ _ _ _ i.2 w.log_point-end.ensures.log_grew) in (omega arith, r.0, r.1)
       | else-noted-x-ne0 w ↦ let r = grew_as _ _ _ _ _ _ _ _ w.log-is w.end-is i.1 (grew_unnoted _ _ _ _ _ _ _ _ (λ t h. c.requires.unnoted c.loop-x.x t (omega arith) h w.if-noted-x-ne0.false) i.2) in (omega arith, r.0, r.1)
     ]
 

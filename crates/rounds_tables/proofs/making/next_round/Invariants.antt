@@ -1,5 +1,4 @@
 -- The loop's invariant: the points that are left have the first table's cells, the others the next ones, and what is raised is noted.
-use Prim.Native.Nat.{◌-◌}
 use Rattle.rounds_tables.proofs.RoundByPoints.{SoFar}
 use Rattle.rounds_tables.proofs.making.next_round.Given as goal
 

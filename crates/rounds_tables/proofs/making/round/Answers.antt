@@ -1,6 +1,5 @@
 -- The loop's invariant: the cells of the points passed are laid over the second table.
 use mathlib.Core.Path.{refl}
-use Prim.Native.Nat.{◌-◌}
 use native.Mathlib.Nat.{zero-mul}
 use native.Mathlib.Omega.{arith}
 use Rattle.plan.specs.Layout.{plan_of}

@@ -1,6 +1,5 @@
 -- The loop's invariant: no cell passed is above the horizon.
 use mathlib.Core.Bool.{true≢false}
-use Prim.Native.Nat.{◌-◌}
 use native.Mathlib.Omega.{arith}
 use borrow.Author.Count.{below_more}
 use Rattle.rounds_tables.proofs.Walking.{read_low}

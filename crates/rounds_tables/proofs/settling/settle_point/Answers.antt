@@ -1,5 +1,5 @@
 -- The loop's invariant: the noted cells passed are copied and listed, and the lines are those of the table as it is.
-use Prim.Native.Nat.{◌+◌, ◌*◌, ◌-◌, ◌≤◌}
+use Prim.Native.Nat.{◌+◌, ◌*◌, ◌≤◌}
 use native.Mathlib.Omega.{arith}
 use Rattle.rounds_tables.proofs.NotedLaws.{noted_at}
 use Rattle.rounds_tables.proofs.Copying.{copied_none, cell_lent, copied_more, all_copied}

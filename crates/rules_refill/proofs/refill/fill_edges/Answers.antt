@@ -1,6 +1,5 @@
 -- The loop's invariant: the steps of the edges before edge i are made, it starts at x or is past them all, and the raised cells are noted.
 use mathlib.Core.Path.{refl, ◌∙◌}
-use Prim.Native.Nat.{◌-◌}
 use native.Mathlib.Omega.{arith}
 use Rattle.rules_refill.proofs.Refilling.{edges_few, point_counted}
 use Rattle.rules_refill.proofs.EdgeWalk.{walk_begins, walk_goes, walk_ends}

@@ -1,6 +1,5 @@
 -- The loop's invariant: the steps of the points passed are made, and those begin at 1; the raised cells are noted.
 use mathlib.Core.Path.{refl, ◌∙◌}
-use Prim.Native.Nat.{◌-◌}
 use native.Mathlib.Omega.{arith}
 use Rattle.rules_fill.specs.Shapes.{fill_horizon}
 use Rattle.rules_fill.proofs.StepLaws.{steps_none}

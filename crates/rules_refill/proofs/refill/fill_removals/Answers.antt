@@ -1,6 +1,5 @@
 -- The loop's invariant: the steps of the links and propositions passed are made, and the raised cells noted.
 use mathlib.Core.Path.{refl, ◌∙◌}
-use Prim.Native.Nat.{◌-◌}
 use native.Mathlib.Omega.{arith}
 use Rattle.rules_fill.proofs.StepLaws.{steps_none}
 use Rattle.rules_fill.proofs.ShapeLaws.{step_made, done}
