@@ -6,7 +6,7 @@ use Prim.Native.Nat.{ℕ, zero, suc, ◌+◌, ◌*◌, ◌-◌, ◌/◌, ◌%◌
 use native.Mathlib.Nat.{div-add-mod', div-lt_iff_lt-mul, one-le-mul, mul_assoc}
 use native.Mathlib.Decide.{dec_lt}
 use native.Mathlib.Omega.{arith}
-use lib.Dec.{T as Is, ltb, eqb, eqb→eq}
+use lib.Dec.{T as Is, ltb, eqb→eq}
 use lib.ListN.{length, get_or, length-append, get_or-append, get_or-replicate}
 use lib.Pow.{pow_pos}
 use lib.Seq.{get_or-append_seam}
