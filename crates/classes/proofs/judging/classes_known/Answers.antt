@@ -1,6 +1,5 @@
 -- The loop's invariant: the classes passed are known.
 use mathlib.Core.Path.{refl}
-use Prim.Native.Nat.{◌-◌}
 use native.Mathlib.Omega.{arith}
 use borrow.Author.Tests.{le-leb, lt-leb}
 use Rattle.plan.proofs.Tests.{passed_none, passed_more, passed_all, passed_not}

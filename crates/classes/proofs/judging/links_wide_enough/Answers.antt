@@ -1,5 +1,4 @@
 -- The loop's invariant: the links passed are wide enough.
-use Prim.Native.Nat.{◌-◌}
 use native.Mathlib.Omega.{arith}
 use Rattle.plan.proofs.Tests.{passed_none, passed_more, passed_all, passed_not}
 use Rattle.classes.proofs.judging.links_wide_enough.Goals as goal

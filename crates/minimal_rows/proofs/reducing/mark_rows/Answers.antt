@@ -1,6 +1,5 @@
 -- The loop's invariant: the marks passed are set.
 use mathlib.Core.Path.{refl, ◌∙◌}
-use Prim.Native.Nat.{◌-◌}
 use native.Mathlib.Omega.{arith}
 use lib.ListN.{length-set}
 use Rattle.minimal_rows.proofs.RunLaws.{run_none, run_more, run_done}

@@ -1,5 +1,4 @@
 -- The loop's invariant: the marks are those of the rows tried so far.
-use Prim.Native.Nat.{◌-◌}
 use native.Mathlib.Omega.{arith}
 use Rattle.plan.specs.Layout.{plan_of}
 use Rattle.minimal_rows.proofs.ProcedureLaws.{tried_length}

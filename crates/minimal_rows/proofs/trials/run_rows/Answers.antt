@@ -1,7 +1,5 @@
 -- The rows' bytes are written to the start of the buffer, and the rounds run on that part.
-use mathlib.Core.Path.{sym}
 use native.Mathlib.Omega.{arith}
-use lib.Seq.{length-take-le}
 use Rattle.plan_rows.proofs.RowPlans.{rows_length}
 use Rattle.minimal_rows.proofs.TrialsMade.{bytes_fit, part_lent, part_tried}
 use Rattle.minimal_rows.proofs.trials.run_rows.Goals as goal

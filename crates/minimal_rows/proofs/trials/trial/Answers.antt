@@ -1,8 +1,6 @@
 -- The rows with mark 1 are listed, and a trial of the list is one of the marks.
-use mathlib.Core.Path.{sym}
 use native.Mathlib.Omega.{arith}
 use lib.ListN.{take, length-take}
-use lib.Seq.{length-take-le}
 use Rattle.plan.proofs.Ranges.{accepted_bounded}
 use Rattle.plan_rows.proofs.Marked.{marked_length}
 use Rattle.minimal_rows.proofs.TrialsMade.{listed_in, marks_tried}

@@ -1,6 +1,5 @@
 -- The loop's invariant: the lines of the points passed are put.
 use mathlib.Core.Path.{◌≡◌}
-use Prim.Native.Nat.{◌-◌}
 use native.Mathlib.Omega.{arith}
 use borrow.Author.Rules.{rules}
 use Rattle.rounds_tables.proofs.RoundLaws.{row_within}
