@@ -33,7 +33,7 @@ module _ (P : Plan) where
   -- cell c's number names the line that T holds there, if it holds one
   pub record KnownAt (ls : List Line) (T : List ℕ) (c : ℕ) : Type 0 where
     pub stands : Is (holds_line P T c) → index_at P ls c < P.points + length ls
-    pub is_line_lem : Is (holds_line P T c) → line_numbered ls (index_at P ls c) ≡ line_at P T c
+    pub is_line : Is (holds_line P T c) → line_numbered ls (index_at P ls c) ≡ line_at P T c
 
   -- ---- one line more
   numbered_on : (ls : List Line) (l : Line) (q : ℕ) → q < P.points + length ls → line_numbered (ls ++ (l ∷ [])) q ≡ line_numbered ls q
@@ -55,13 +55,13 @@ module _ (P : Plan) where
   known_other : (ls : List Line) (l : Line) (T : List ℕ) (c : ℕ) → (cell_of P l ≡ c → ⊥) → KnownAt ls T c → KnownAt (ls ++ (l ∷ [])) T c
   known_other ls l T c d k = record {
     stands = λ h. let z = k.stands h in omega (arith, index_old P ls l c d, longer ls l);
-    is_line_lem = λ h. ap (line_numbered (ls ++ (l ∷ []))) (index_old P ls l c d) ∙ numbered_on ls l (index_at P ls c) (k.stands h) ∙ k.is_line_lem h;
+    is_line = λ h. ap (line_numbered (ls ++ (l ∷ []))) (index_old P ls l c d) ∙ numbered_on ls l (index_at P ls c) (k.stands h) ∙ k.is_line h;
   }
 
   known_new : (ls : List Line) (U : List ℕ) (c : ℕ) → KnownAt (ls ++ (line_at P U c ∷ [])) U c
   known_new ls U c =
       let e = index_new P ls (line_at P U c) c (cell_at P U c) in
-      record { stands = λ h. omega (arith, e, longer ls (line_at P U c)); is_line_lem = λ h. ap (line_numbered (ls ++ (line_at P U c ∷ []))) e ∙ numbered_last ls (line_at P U c) }
+      record { stands = λ h. omega (arith, e, longer ls (line_at P U c)); is_line = λ h. ap (line_numbered (ls ++ (line_at P U c ∷ []))) e ∙ numbered_last ls (line_at P U c) }
 
   -- ---- the lines of a round from T to U, one cell after the other
   module _ (T U : List ℕ) where
@@ -97,7 +97,7 @@ module _ (P : Plan) where
       line_same = rw same refl
 
       known_same : (ls : List Line) → KnownAt ls T c → KnownAt ls U c
-      known_same ls k = record { stands = λ h. k.stands (rw held_same at h); is_line_lem = λ h. k.is_line_lem (rw held_same at h) ∙ sym line_same }
+      known_same ls k = record { stands = λ h. k.stands (rw held_same at h); is_line = λ h. k.is_line (rw held_same at h) ∙ sym line_same }
 
     -- the cell's own turn
     known_here : (ls : List Line) (c : ℕ) → get_or T c 0 ≤ get_or U c 0 → KnownAt (ls ++ raised_lines P T U c) T c → KnownAt (ls ++ raised_lines P T U (suc c)) U c
@@ -153,7 +153,7 @@ module _ (P : Plan) where
       known_start : KnownAt [] (zeros P) c
       known_start = record {
         stands = λ h. omega (arith, starting_number (is_starting h), point_in);
-        is_line_lem = λ h. ap (line_numbered []) (starting_number (is_starting h)) ∙ rw (lt-ltb (c / width P) P.points point_in) (sym (starting_cell (is_starting h)));
+        is_line = λ h. ap (line_numbered []) (starting_number (is_starting h)) ∙ rw (lt-ltb (c / width P) P.points point_in) (sym (starting_cell (is_starting h)));
       }
 
     pub known_table : (r c : ℕ) → c < cells P → KnownAt (lines_to P r) (table P r) c

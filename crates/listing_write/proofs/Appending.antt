@@ -119,7 +119,7 @@ module _ (P : Plan) where
   cells_numbered ls T bs cs k s = record {
     sized = index_length P ls;
     in_lines = λ c h t. rw (index_at_lem P ls c h) ((k c h).stands t);
-    is_line_lem = λ c h t. ap (parent_line P cs) (index_at_lem P ls c h) ∙ named (index_at P ls c) ((k c h).stands t) ∙ (k c h).is_line_lem t;
+    is_line = λ c h t. ap (parent_line P cs) (index_at_lem P ls c h) ∙ named (index_at P ls c) ((k c h).stands t) ∙ (k c h).is_line t;
   }
     where
       named : (q : ℕ) → q < P.points + length ls → parent_line P cs q ≡ line_numbered P ls q
@@ -134,7 +134,7 @@ module _ (P : Plan) where
   numbered_on z T I bs cs at to ks e k s = record {
     sized = k.sized;
     in_lines = λ c h t. omega (arith, k.in_lines c h t);
-    is_line_lem = λ c h t. parent_kept z bs cs at s.kept (get_or I c 0) (k.in_lines c h t) ∙ k.is_line_lem c h t;
+    is_line = λ c h t. parent_kept z bs cs at s.kept (get_or I c 0) (k.in_lines c h t) ∙ k.is_line c h t;
   }
 
   -- ---- one line, by a ground in the table before it
@@ -144,10 +144,10 @@ module _ (P : Plan) where
 
     -- the number of a cell names the line that the cell holds
     cell_line : (e x : ℕ) → x < cells P → Is (holds_line P T x) → e ≡ get_or I x 0 → parent_line P cs e ≡ line_at P T x
-    cell_line e x h t w = ap (parent_line P cs) w ∙ parent_kept some_point bs cs i same_before (get_or I x 0) (numbers.in_lines x h t) ∙ numbers.is_line_lem x h t
+    cell_line e x h t w = ap (parent_line P cs) w ∙ parent_kept some_point bs cs i same_before (get_or I x 0) (numbers.in_lines x h t) ∙ numbers.is_line x h t
 
     first_line_lem : parent_line P cs (first_parent cs i) ≡ line_at P T g.first
-    first_line_lem = cell_line (first_parent cs i) g.first ground.first_in ground.first_line_lem put.first_is
+    first_line_lem = cell_line (first_parent cs i) g.first ground.first_in ground.first_line put.first_is
 
     -- what the rule gives from the parents named
     gives : (u : Bool) → uses_second g.by ≡ u → second_parent cs i ≡ cond u (get_or I g.second 0) 0 → Is (fires P g.by (parent_line P cs (first_parent cs i)) (parent_line P cs (second_parent cs i))) × (result P g.by (parent_line P cs (first_parent cs i)) (parent_line P cs (second_parent cs i)) ≡ l)
@@ -184,7 +184,7 @@ module _ (P : Plan) where
               label_in = rw put.line_is h.label_in;
               rule = g.by;
               named = put.rule_is;
-              first_known = rw put.first_is (numbers.in_lines g.first ground.first_in ground.first_line_lem);
+              first_known = rw put.first_is (numbers.in_lines g.first ground.first_in ground.first_line);
               second_known = s.0;
               second_unused = s.1;
               fire = f.0;

@@ -22,7 +22,6 @@ use Rattle.replay.specs.Listings.{line_count}
 use Rattle.listing_lines.specs.Listed.{table, raised_lines, lines_to, lowest_raised, listing_lines, index_table, BreaksIn}
 use Rattle.listing_lines.specs.Handed.{Listing}
 use Rattle.listing_write.specs.Progress.{CellsNumbered, Appended, Numbered}
-use Rattle.listing_lines.proofs.IndexLaws.{index_length}
 use Rattle.listing_lines.proofs.IndexNumbers.{known_table}
 use Rattle.listing_write.proofs.Appending.{append_none, append_then, cells_numbered}
 use Rattle.listing_lines.proofs.Ending.{breaks_facts, last_in, last_raised}
@@ -101,7 +100,7 @@ module _ (plan marks : List ℕ) (horizon : ℕ) (F G I out : List ℕ) (m w : �
     lowest_in = omega (arith, width_le (plan_of plan) (accepted_well_formed plan d.exact.accepted), raises.in_first, lowest_is)
 
     pub lowest_raised_lem : get_or F c 0 < get_or G c 0
-    lowest_raised_lem = subst (λ (x : List ℕ). get_or F c 0 < get_or x c 0) (sym d.is_next) (subst (λ (k : ℕ). get_or F k 0 < get_or (next (plan_of plan) F) k 0) (sym lowest_is) raises.is_raised_lem)
+    lowest_raised_lem = subst (λ (x : List ℕ). get_or F c 0 < get_or x c 0) (sym d.is_next) (subst (λ (k : ℕ). get_or F k 0 < get_or (next (plan_of plan) F) k 0) (sym lowest_is) raises.is_raised)
 
     pub lowest_listed : (out' : List ℕ) → Appended (plan_of plan) (m - 1) (line_at (plan_of plan) G c ∷ []) out out' → Appended (plan_of plan) (m - 1) (line_at (plan_of plan) G (lowest_of (plan_of plan) F) ∷ []) out out'
     lowest_listed out' s = subst (λ (k : ℕ). Appended (plan_of plan) (m - 1) (line_at (plan_of plan) G k ∷ []) out out') lowest_is s
@@ -185,7 +184,7 @@ module _ (plan marks : List ℕ) (horizon : ℕ) (F G I out : List ℕ) (m s : �
         let f = breaks_facts (plan_of plan) (suc s) (suc s) b.breaks.breaks in
         let e : f.before ≡ s = omega (arith, f.is_after) in
         let g = breaks_running (plan_of plan) s b.breaks in
-        rw t.first_is (record { in_first = last_in (plan_of plan) wf s g (rw e at f.waits); is_raised_lem = last_raised (plan_of plan) wf s g (rw e at f.waits) })
+        rw t.first_is (record { in_first = last_in (plan_of plan) wf s g (rw e at f.waits); is_raised = last_raised (plan_of plan) wf s g (rw e at f.waits) })
 
     module _ (F'' G'' I'' out'' : List ℕ) (l : RoundListed (plan_of plan) (line_at (plan_of plan) (next (plan_of plan) F') (lowest_of (plan_of plan) F') ∷ []) (m - 1) F' G' I' out' F'' G'' I'' out'') where
       last_is : lines_to (plan_of plan) s ++ (line_at (plan_of plan) (next (plan_of plan) F') (lowest_of (plan_of plan) F') ∷ []) ≡ listing_lines (plan_of plan) (suc s)

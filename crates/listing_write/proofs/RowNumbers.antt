@@ -18,14 +18,14 @@ module _ (bs : List ℕ) (a : Accepted bs) where
   edge_fits_lem : (e : Edge) → InPlan (plan_of bs) (Propagation e) → edge_number (plan_of bs) e < 65536
   edge_fits_lem (PlanEdge i) h = let d = accepted_bounded bs a in omega (arith, d.edges_in)
   edge_fits_lem (HorizonEdge x) h = let d = accepted_bounded bs a in omega (arith, d.edges_in, d.points_in, h.1)
-  edge_fits_lem (UpperBound i) h = let d = accepted_bounded bs a in omega (arith, d.edges_in, d.points_in, d.links_in_lem)
-  edge_fits_lem (LowerBound i) h = let d = accepted_bounded bs a in omega (arith, d.edges_in, d.points_in, d.links_in_lem)
+  edge_fits_lem (UpperBound i) h = let d = accepted_bounded bs a in omega (arith, d.edges_in, d.points_in, d.links_in)
+  edge_fits_lem (LowerBound i) h = let d = accepted_bounded bs a in omega (arith, d.edges_in, d.points_in, d.links_in)
 
   row_fits : (r : Rule) → InPlan (plan_of bs) r → row_number (plan_of bs) r < 65536
   row_fits (Propagation e) h = edge_fits_lem e h
-  row_fits (LowerCase i) h = let d = accepted_bounded bs a in omega (arith, d.links_in_lem)
-  row_fits (UpperCase i) h = let d = accepted_bounded bs a in omega (arith, d.links_in_lem)
-  row_fits (LetterRemoval i) h = let d = accepted_bounded bs a in omega (arith, d.links_in_lem)
+  row_fits (LowerCase i) h = let d = accepted_bounded bs a in omega (arith, d.links_in)
+  row_fits (UpperCase i) h = let d = accepted_bounded bs a in omega (arith, d.links_in)
+  row_fits (LetterRemoval i) h = let d = accepted_bounded bs a in omega (arith, d.links_in)
   row_fits (OwnLiteral j) h = let d = accepted_bounded bs a in omega (arith, d.propositions_in)
   row_fits (LiteralRemoval j) h = let d = accepted_bounded bs a in omega (arith, d.propositions_in)
 

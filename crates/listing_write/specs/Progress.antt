@@ -55,7 +55,7 @@ pub record NumbersReady (plan first second index : List ℕ) (at : ℕ) : Type 0
 pub record CellsNumbered (P : Plan) (T I out : List ℕ) (at : ℕ) : Type 0 where
   pub sized : length I ≡ cells P
   pub in_lines : (c : ℕ) → c < cells P → Is (holds_line P T c) → get_or I c 0 < P.points + at
-  pub is_line_lem : (c : ℕ) → c < cells P → Is (holds_line P T c) → parent_line P out (get_or I c 0) ≡ line_at P T c
+  pub is_line : (c : ℕ) → c < cells P → Is (holds_line P T c) → parent_line P out (get_or I c 0) ≡ line_at P T c
 
 -- ---- what is left
 -- lines ks were written from line `at` on, each derives, and the lines before stay

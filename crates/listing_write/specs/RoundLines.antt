@@ -28,7 +28,7 @@ last_line_of P T = lowest_line P T (next P T)
 -- there is such a cell
 pub record RaisesFirst (P : Plan) (T : List ℕ) : Type 0 where
   pub in_first : lowest_of P T < width P
-  pub is_raised_lem : get_or T (lowest_of P T) 0 < get_or (next P T) (lowest_of P T) 0
+  pub is_raised : get_or T (lowest_of P T) 0 < get_or (next P T) (lowest_of P T) 0
 
 -- before a round: the cells leave room for a duration, and `at` of the m lines are written
 pub record RoundReady (plan marks : List ℕ) (horizon : ℕ) (first second index out : List ℕ) (m at : ℕ) : Type 0 where

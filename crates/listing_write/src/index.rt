@@ -7,8 +7,7 @@ ghost use Rattle.plan.specs.Refusal.{Accepted};
 ghost use Rattle.listing_lines.specs.Listed.{cell_lines, start_number, index_table};
 ghost use Rattle.listing_write.specs.Progress.{all_raised, NumbersReady, CellNumbered, Numbers};
 
-use plan::points;
-use plan::width as width_for;
+use plan::{points, width as width_for};
 
 pub fn put_number(index: &mut [u16], c: usize, number: usize)
     requires { (c < length index.old) × (number < 65536) }

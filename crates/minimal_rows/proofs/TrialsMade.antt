@@ -87,7 +87,7 @@ module _ (bs rows : List ℕ) (h limit : ℕ) (F G : List ℕ) (lent : TrialLent
   -- a buffer is long enough
   pub bytes_fit : length_for (with_rows P rows) ≤ 800
   unfolding length_for
-  bytes_fit = let b = accepted_bounded bs lent.accepted in omega (arith, within.few, b.edges_in, b.links_in_lem, b.propositions_in)
+  bytes_fit = let b = accepted_bounded bs lent.accepted in omega (arith, within.few, b.edges_in, b.links_in, b.propositions_in)
 
   -- the bytes were written into a buffer; the code's number e is how many
   module _ (B B₀ : List ℕ) (e : ℕ) (count : e ≡ length (rows_bytes bs rows)) (written : B ≡ rows_bytes bs rows ++ drop e B₀) where

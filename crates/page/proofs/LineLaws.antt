@@ -51,7 +51,7 @@ pub point_digits : (l : Line) → LineFits l → length (decimal l.point) ≤ 2
 point_digits l f = decimal_length 1 l.point f.point_fits
 
 pub wait_digits : (l : Line) → LineFits l → length (decimal l.wait) ≤ 6
-wait_digits l f = decimal_length 5 l.wait f.wait_fits_lem
+wait_digits l f = decimal_length 5 l.wait f.wait_fits
 
 pub line_length : (l : Line) → LineFits l → length (columns l) ≡ 22
 unfolding columns middle_columns
@@ -69,5 +69,5 @@ module _ (plan table : List ℕ) (p : Printable plan table) (c : ℕ) (h : c < c
   line_fits =
       let d = accepted_bounded plan p.accepted in
       let r = at_range (plan_of plan) table c h in
-      let s : 2 ^ (plan_of plan).links ≤ 2 ^ 4 = pow-le-pow_right {n = 2} (omega arith) d.links_in_lem in
-      record { point_fits = omega (arith, r.point_in, d.points_in); set_fits = omega (arith, r.set_in); wait_fits_lem = omega (arith, wait_in) }
+      let s : 2 ^ (plan_of plan).links ≤ 2 ^ 4 = pow-le-pow_right {n = 2} (omega arith) d.links_in in
+      record { point_fits = omega (arith, r.point_in, d.points_in); set_fits = omega (arith, r.set_in); wait_fits = omega (arith, wait_in) }

@@ -10,7 +10,7 @@ use Rattle.page.specs.Page.{wait_fits}
 pub record LineFits (l : Line) : Type 0 where
   pub point_fits : l.point < 100
   pub set_fits : l.set < 16
-  pub wait_fits_lem : l.wait < 1000000
+  pub wait_fits : l.wait < 1000000
 
 -- an accepted plan, and a table that has all its cells, whose waits fit their columns
 pub record Printable (plan table : List ℕ) : Type 0 where

@@ -31,7 +31,7 @@ pub record FewerRows (Q P : Plan) : Type 0 where
   pub finish_is : (i : ℕ) → i < Q.links → Q.finish i ≡ P.finish i
   pub least_is : (i : ℕ) → i < Q.links → Q.least i ≡ P.least i
   pub most_is : (i : ℕ) → i < Q.links → Q.most i ≡ P.most i
-  pub edge_among_lem : (i : ℕ) → i < Q.edges → (j : ℕ) × (j < P.edges) × SameEdge Q i P j
+  pub edge_among : (i : ℕ) → i < Q.edges → (j : ℕ) × (j < P.edges) × SameEdge Q i P j
   pub horizon_is : Q.horizon ≡ P.horizon
 
 pub fewer_trans : {R Q P : Plan} → FewerRows R Q → FewerRows Q P → FewerRows R P
@@ -44,7 +44,7 @@ fewer_trans f g = record {
   finish_is = λ i h. f.finish_is i h ∙ g.finish_is i (rw f.links_are at h);
   least_is = λ i h. f.least_is i h ∙ g.least_is i (rw f.links_are at h);
   most_is = λ i h. f.most_is i h ∙ g.most_is i (rw f.links_are at h);
-  edge_among_lem = λ i h. let (j, k, s) = f.edge_among_lem i h in let (l, m, t) = g.edge_among_lem j k in (l, m, record { from_is = s.from_is ∙ t.from_is; to_is = s.to_is ∙ t.to_is; up_is = s.up_is ∙ t.up_is; down_is = s.down_is ∙ t.down_is; label_is = s.label_is ∙ t.label_is });
+  edge_among = λ i h. let (j, k, s) = f.edge_among i h in let (l, m, t) = g.edge_among j k in (l, m, record { from_is = s.from_is ∙ t.from_is; to_is = s.to_is ∙ t.to_is; up_is = s.up_is ∙ t.up_is; down_is = s.down_is ∙ t.down_is; label_is = s.label_is ∙ t.label_is });
   horizon_is = f.horizon_is ∙ g.horizon_is;
 }
 
@@ -75,6 +75,6 @@ module _ (Q : Plan) {P : Plan} (h : ℕ) (f : FewerRows (with_horizon Q h) P) wh
     observers = rw (every_same (observer_fits Q) (observer_fits P) Q.propositions observer_same, f.propositions_are) j.observers;
     point_labels = none_fits Q none Q.points;
     links_fit = rw (every_same (is_link_fit Q) (is_link_fit P) Q.links link_same, f.links_are) j.links_fit;
-    edges_fit = every_of (edge_fits cs Q) Q.edges (λ i h. let (k, l, s) = f.edge_among_lem i h in and_i (edge_ends_fit Q i && label_fits Q (Q.label i)) (eqb (spare_at cs i) 0) (edge_same bs i k s (every_at (edge_fits bs P) P.edges k j.edges_fit l)) (rw (spare i h) tt));
-    well_defined_lem = none_well_defined Q none;
+    edges_fit = every_of (edge_fits cs Q) Q.edges (λ i h. let (k, l, s) = f.edge_among i h in and_i (edge_ends_fit Q i && label_fits Q (Q.label i)) (eqb (spare_at cs i) 0) (edge_same bs i k s (every_at (edge_fits bs P) P.edges k j.edges_fit l)) (rw (spare i h) tt));
+    well_defined = none_well_defined Q none;
   }

@@ -40,7 +40,7 @@ pub record WellFormed (P : Plan) : Type 0 where
 pub record Bounded (P : Plan) : Type 0 where
   pub points_in : P.points ≤ 32
   pub propositions_in : P.propositions ≤ 4
-  pub links_in_lem : P.links ≤ 4
+  pub links_in : P.links ≤ 4
   pub edges_in : P.edges ≤ 128
   pub cells_in : cells P ≤ 16384
   pub up_in : (i : ℕ) → i < P.edges → P.up i ≤ most_seconds
@@ -120,7 +120,7 @@ pub record Judged (bs : List ℕ) (P : Plan) : Type 0 where
   pub point_labels : Is (every (point_label_fits P) P.points)
   pub links_fit : Is (every (is_link_fit P) P.links)
   pub edges_fit : Is (every (edge_fits bs P) P.edges)
-  pub well_defined_lem : Is (well_defined P)
+  pub well_defined : Is (well_defined P)
 
 pub judged : (bs : List ℕ) (P : Plan) → refusal_of bs P ≡ 0 → Judged bs P
 unfolding refusal_of
@@ -133,7 +133,7 @@ judged bs P e =
     let f = unless (every (is_link_fit P) P.links) 3 _ l.1 in
     let g = unless (every (edge_fits bs P) P.edges) 4 _ f.1 in
     let w = unless (well_defined P) 17 0 g.1 in
-    record { sizes = b.0; long = c.0; observers = d.0; point_labels = l.0; links_fit = f.0; edges_fit = g.0; well_defined_lem = w.0 }
+    record { sizes = b.0; long = c.0; observers = d.0; point_labels = l.0; links_fit = f.0; edges_fit = g.0; well_defined = w.0 }
 
 -- the length is one of two
 pub one_length : (bs : List ℕ) (P : Plan) → Is (length_fits bs P) → (length bs ≡ length_for P) ⊎ (length bs ≡ labelled_length_for P)
@@ -152,7 +152,7 @@ four_bytes bs P t = ⊎_elim (λ e. omega arith) (λ e. omega arith) (one_length
 pub judged_none : (bs : List ℕ) (P : Plan) → Judged bs P → refusal_of bs P ≡ 0
 unfolding refusal_of
 judged_none bs P j =
-    rw (le-ltb (length bs) 4 (four_bytes bs P j.long), is_true (sizes_fit P) j.sizes, is_true (length_fits bs P) j.long, is_true (every (observer_fits P) P.propositions) j.observers, is_true (every (point_label_fits P) P.points) j.point_labels, is_true (every (is_link_fit P) P.links) j.links_fit, is_true (every (edge_fits bs P) P.edges) j.edges_fit, is_true (well_defined P) j.well_defined_lem)
+    rw (le-ltb (length bs) 4 (four_bytes bs P j.long), is_true (sizes_fit P) j.sizes, is_true (length_fits bs P) j.long, is_true (every (observer_fits P) P.propositions) j.observers, is_true (every (point_label_fits P) P.points) j.point_labels, is_true (every (is_link_fit P) P.links) j.links_fit, is_true (every (edge_fits bs P) P.edges) j.edges_fit, is_true (well_defined P) j.well_defined)
 
 module _ (bs : List ℕ) (P : Plan) (j : Judged bs P) where
   points_fit : (2 ≤ P.points) × (P.points ≤ 32)
@@ -280,7 +280,7 @@ module _ (bs : List ℕ) where
     accepted_bounded = record {
       points_in = (points_fit bs (plan_of bs) fit).1;
       propositions_in = propositions_fit bs (plan_of bs) fit;
-      links_in_lem = links_few bs (plan_of bs) fit;
+      links_in = links_few bs (plan_of bs) fit;
       edges_in = edges_few bs (plan_of bs) fit;
       cells_in = cells_fit bs (plan_of bs) fit;
       up_in = λ i h. (edge_fit bs (plan_of bs) fit i h).up_fit;
@@ -290,14 +290,14 @@ module _ (bs : List ℕ) where
 
     -- few links and propositions, as the functions that count cells ask
     pub sizes_few : ((plan_of bs).links ≤ 4) × ((plan_of bs).propositions ≤ 4)
-    sizes_few = (accepted_bounded.links_in_lem, accepted_bounded.propositions_in)
+    sizes_few = (accepted_bounded.links_in, accepted_bounded.propositions_in)
 
     -- the number of a row or of a proposition fits a byte, as its accessors ask
     pub edge_byte : (i : ℕ) → i < (plan_of bs).edges → i < 256
     edge_byte i h = omega (arith, accepted_bounded.edges_in)
 
     pub link_byte : (i : ℕ) → i < (plan_of bs).links → i < 256
-    link_byte i h = omega (arith, accepted_bounded.links_in_lem)
+    link_byte i h = omega (arith, accepted_bounded.links_in)
 
     pub proposition_byte : (j : ℕ) → j < (plan_of bs).propositions → j < 256
     proposition_byte j h = omega (arith, accepted_bounded.propositions_in)

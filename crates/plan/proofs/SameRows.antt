@@ -43,7 +43,7 @@ module _ {cs bs : List ℕ} (s : SameRows cs bs) where
 
   row_is : (i : ℕ) → row_of_edge cs i ≡ row_of_edge bs i
   unfolding row_of_edge
-  row_is i = ap (λ (k : ℕ). k + i) (size_is 2 (omega arith))
+  row_is i = cc (size_is 2 (omega arith))
 
   -- ---- what the rules see
   most_is : (i : ℕ) → most_at cs i ≡ most_at bs i
@@ -80,6 +80,6 @@ module _ {cs bs : List ℕ} (s : SameRows cs bs) where
     finish_is = λ i h. end_is i 1;
     least_is = λ i h. simp add-zero at (word_is i 0);
     most_is = λ i h. most_is i;
-    edge_among_lem = λ i h. (i, rw (size_is 3 (omega arith)) at h, record { from_is = rw (row_is i) (simp add-zero at (end_is (row_of_edge bs i) 0)); to_is = rw (row_is i) (end_is (row_of_edge bs i) 1); up_is = ap up_of (weight_is i); down_is = down_is i; label_is = rw (row_is i) (datum_is (row_of_edge bs i) 2) });
+    edge_among = λ i h. (i, rw (size_is 3 (omega arith)) at h, record { from_is = rw (row_is i) (simp add-zero at (end_is (row_of_edge bs i) 0)); to_is = rw (row_is i) (end_is (row_of_edge bs i) 1); up_is = ap up_of (weight_is i); down_is = down_is i; label_is = rw (row_is i) (datum_is (row_of_edge bs i) 2) });
     horizon_is = ap₂ ◌*◌ (size_is 0 (omega arith)) largest_is;
   }

@@ -30,7 +30,7 @@ turned f among = record {
   finish_is = λ i h. sym (f.finish_is i (rw f.links_are h));
   least_is = λ i h. sym (f.least_is i (rw f.links_are h));
   most_is = λ i h. sym (f.most_is i (rw f.links_are h));
-  edge_among_lem = λ i h. let a = among i h in let s = a.2 in (a.0, a.1, record { from_is = sym s.from_is; to_is = sym s.to_is; up_is = sym s.up_is; down_is = sym s.down_is; label_is = sym s.label_is });
+  edge_among = λ i h. let a = among i h in let s = a.2 in (a.0, a.1, record { from_is = sym s.from_is; to_is = sym s.to_is; up_is = sym s.up_is; down_is = sym s.down_is; label_is = sym s.label_is });
   horizon_is = sym f.horizon_is;
 }
 
@@ -133,7 +133,7 @@ module _ (bs rows : List ℕ) where
     finish_is = λ i h. link_end i 1 h (omega arith);
     least_is = λ i h. simp add-zero at (word_is (data_at new i) (data_at bs i) 0 (omega arith) (λ j. link_datum i j h));
     most_is = λ i h. word_is (data_at new i) (data_at bs i) 2 (omega arith) (λ j. link_datum i j h);
-    edge_among_lem = λ i h. let l = rw sizes_are.2 at h in (i, l, row_is i l);
+    edge_among = λ i h. let l = rw sizes_are.2 at h in (i, l, row_is i l);
     horizon_is = refl;
   }
 

@@ -38,7 +38,7 @@ fewer_by P m n f g among = record {
   finish_is = λ i h. refl;
   least_is = λ i h. refl;
   most_is = λ i h. refl;
-  edge_among_lem = λ i h. let a = among i h in let e = sym a.2 in (a.0, a.1, record { from_is = ap P.from e; to_is = ap P.to e; up_is = ap P.up e; down_is = ap P.down e; label_is = ap P.label e });
+  edge_among = λ i h. let a = among i h in let e = sym a.2 in (a.0, a.1, record { from_is = ap P.from e; to_is = ap P.to e; up_is = ap P.up e; down_is = ap P.down e; label_is = ap P.label e });
   horizon_is = refl;
 }
 

@@ -62,7 +62,7 @@ pub not_below_shift : (x r y : ℕ) → y < 64 → r ≡ y → 1 * 2 ^ r % 18446
 not_below_shift x r y h e k = le-ltb x (2 ^ y) (rw (shift r y h e) at k)
 
 pub links_few : (bs : List ℕ) → Accepted bs → (plan_of bs).links < 64
-links_few bs a = omega (arith, (accepted_bounded bs a).links_in_lem)
+links_few bs a = omega (arith, (accepted_bounded bs a).links_in)
 
 pub links_shift : (bs : List ℕ) (r : ℕ) → Accepted bs → r ≡ (plan_of bs).links → r < 64
 links_shift bs r a e = omega (arith, links_few bs a)
@@ -189,10 +189,10 @@ module _ (plan bs marks : List ℕ) (horizon i : ℕ) (by : Rule) (j : Judging p
   parent_in q l h e w = record { label_in = rw e (parent_label q h); wait_in = omega arith }
 
   pub first_reached : (q : ℕ) → q ≡ first_parent bs i → q < (plan_of plan).points + 4096
-  first_reached q e = omega (arith, first_number, j.line_in_lem)
+  first_reached q e = omega (arith, first_number, j.line_in)
 
   pub second_reached : (r : Bool) (q : ℕ) → r ≡ (uses_second by || eqb (second_parent bs i) 0) → not r ≡ false → q ≡ second_parent bs i → q < (plan_of plan).points + 4096
-  second_reached r q e t k = omega (arith, second_number_lem (granted r (uses_second by || eqb (second_parent bs i) 0) e t), j.line_in_lem)
+  second_reached r q e t k = omega (arith, second_number_lem (granted r (uses_second by || eqb (second_parent bs i) 0) e t), j.line_in)
 
   first_in : (q : ℕ) (l : Line) → q ≡ first_parent bs i → l ≡ parent_line (plan_of plan) bs q → l.wait < 4294967296 → InLabels (plan_of plan) l
   first_in q l k e w = parent_in q l (rw k first_number) e w
@@ -280,7 +280,7 @@ judging_line plan bs marks horizon m i a k h e few f l = record {
   accepted = a;
   marked = k;
   horizon_is = h;
-  line_in_lem = omega arith;
+  line_in = omega arith;
   count_in = omega arith;
   labels_in = λ j t. judged_label (plan_of plan) bs i j f.follow t;
 }

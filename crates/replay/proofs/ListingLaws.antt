@@ -272,7 +272,7 @@ module _ (plan bs : List ℕ) (d : ListingDerives plan bs) where
     line = head_line bs (line_count bs - 1);
     among = among (plan_of plan) bs some_point (line_count bs) 0 (line_count bs - 1) (omega arith) (omega (arith, d.some_lines.0));
     first_alarm = d.last_first_alarm;
-    is_plain_lem = d.last_plain;
+    is_plain = d.last_plain;
   }
 
   pub listing_no_panel : NoPanel (plan_of plan)

@@ -18,6 +18,6 @@ pub record Judging (plan listing marks : List ℕ) (horizon i : ℕ) : Type 0 wh
   pub accepted : Accepted plan
   pub marked : Marks marks
   pub horizon_is : horizon ≡ (plan_of plan).horizon
-  pub line_in_lem : i < 4096
+  pub line_in : i < 4096
   pub count_in : line_count listing ≤ 4096
   pub labels_in : (j : ℕ) → j < i → (head_line listing j).label < 4 ^ (plan_of plan).propositions

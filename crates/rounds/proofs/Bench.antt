@@ -18,15 +18,15 @@ use Rattle.rounds.specs.Meaning.{serving_limit}
 -- a plan's bytes, whether it is broken, R, and the cells of that round's table
 pub record Row : Type 0 where
   pub bytes : List ℕ
-  pub is_broken_lem : Bool
+  pub is_broken : Bool
   pub rounds : ℕ
   pub cells : List ℕ
 
 abbrev keeps : List ℕ → ℕ → List ℕ → Row
-keeps bs r A = record { bytes = bs; is_broken_lem = false; rounds = r; cells = A }
+keeps bs r A = record { bytes = bs; is_broken = false; rounds = r; cells = A }
 
 abbrev breaks : List ℕ → ℕ → List ℕ → Row
-breaks bs r A = record { bytes = bs; is_broken_lem = true; rounds = r; cells = A }
+breaks bs r A = record { bytes = bs; is_broken = true; rounds = r; cells = A }
 
 -- c1 to c10
 abbrev pub rows : List Row
@@ -51,7 +51,7 @@ pub record Findings : Type 0 where
 
 -- what 16.1 says
 abbrev pub listed : Row → Findings
-listed row = record { turned_down = 0; outcome = pick row.is_broken_lem (broken row.rounds) (kept row.rounds); table = row.cells }
+listed row = record { turned_down = 0; outcome = pick row.is_broken (broken row.rounds) (kept row.rounds); table = row.cells }
 
 -- what the definitions say
 abbrev pub checked : ℕ → Row → Findings
@@ -68,7 +68,7 @@ module _ (limit : ℕ) (h : 8 ≤ limit) where
   one_more : (row : Row) → checked 8 row ≡ listed row → checked limit row ≡ listed row
   one_more row e =
       let P = plan_of row.bytes in
-      let d = ends_more P (zeros P) limit 8 h row.is_broken_lem row.rounds (ap (λ (a : Findings). a.outcome) e) in
+      let d = ends_more P (zeros P) limit 8 h row.is_broken row.rounds (ap (λ (a : Findings). a.outcome) e) in
       (λ i. record { turned_down = refusal row.bytes; outcome = d.outcome_is i; table = d.table_is i }) ∙ e
 
   all_more : (rs : List Row) → map (checked 8) rs ≡ map listed rs → map (checked limit) rs ≡ map listed rs

@@ -81,7 +81,7 @@ module _ (P : Plan) (wf : WellFormed P) where
       let high : 0 < get_or B c 0 = rw (get_or-take (width P) B c 0 small) at t.2 in
       let h : Cell P B (line_at P B c) = cell_line B c in_table high in
       let r = sound_next P wf A B n v.sound (line_at P B c) h in
-      record { lines = r.lines; derives = r.derives; by = record { line = line_at P B c; among = r.among; first_alarm = first_point_lem B c small; is_plain_lem = go (line_at P B c) (first_point_lem B c small) (next_cases P wf A B n (line_at P B c) h) } }
+      record { lines = r.lines; derives = r.derives; by = record { line = line_at P B c; among = r.among; first_alarm = first_point_lem B c small; is_plain = go (line_at P B c) (first_point_lem B c small) (next_cases P wf A B n (line_at P B c) h) } }
     where
       go : (l : Line) → l.point ≡ 0 → Cell P A l ⊎ Given P (Cell P A) l → Is (plain P.propositions l.label)
       go l z (inl d) = absurd (quiet_no_line P A v.quiet l d z)

@@ -47,7 +47,7 @@ lists_same n w A B L C e y h l =
     let at : (t : ℕ) → t < w → get_or A (y * w + t) 0 ≡ get_or B (y * w + t) 0 = λ t k. e (y * w + t) (omega (arith, row y n w h)) in record {
       raised_places = l.raised_places;
       line_places = l.line_places;
-      line_count_lem = l.line_count_lem ∙ count_alike (λ t. is_line t (get_or A (y * w + t) 0)) (λ t. is_line t (get_or B (y * w + t) 0)) w (λ t k. ap (is_line t) (at t k));
+      line_count = l.line_count ∙ count_alike (λ t. is_line t (get_or A (y * w + t) 0)) (λ t. is_line t (get_or B (y * w + t) 0)) w (λ t k. ap (is_line t) (at t k));
       all_lines = λ t k i. l.all_lines t k (subst (λ (v : ℕ). Is (is_line t v)) (sym (at t k)) i);
     }
 
@@ -99,7 +99,7 @@ module _ (P : Plan) (wf : WellFormed P) (F G G' : List ℕ) (long : cells P ≤ 
         where
           go : Dec (get_or G' (y * width P + t) 0 ≡ get_or F (y * width P + t) 0) → get_or G' (y * width P + t) 0 ≡ get_or F (y * width P + t) 0
           go (yes e) = e
-          go (no e) = absurd (out (f.raised_in y h (omega (arith, (f.all_raised_lem y t h k e).below))))
+          go (no e) = absurd (out (f.raised_in y h (omega (arith, (f.all_raised y t h k e).below))))
 
       pub lined_but : P.points ≤ 32 → 2 * P.points ≤ length C' → LinedBut P.points C' changed' lined
       lined_but few lc = record {
@@ -111,7 +111,7 @@ module _ (P : Plan) (wf : WellFormed P) (F G G' : List ℕ) (long : cells P ≤ 
       }
         where
           same_count : (y : ℕ) → y < P.points → (In changed' y → ⊥) → get_or C (2 * y + 1) 0 ≡ get_or C' (2 * y + 1) 0
-          same_count y h out = (known.lists_are.of_point y h).line_count_lem ∙ count_alike (λ t. is_line t (get_or (take (cells P) F) (y * width P + t) 0)) (λ t. is_line t (get_or G' (y * width P + t) 0)) (width P) (λ t k. ap (is_line t) (first_at (y * width P + t) (cell_in y t h k) ∙ sym (kept y t h k out))) ∙ sym (settled.lists_are y h).line_count_lem
+          same_count y h out = (known.lists_are.of_point y h).line_count ∙ count_alike (λ t. is_line t (get_or (take (cells P) F) (y * width P + t) 0)) (λ t. is_line t (get_or G' (y * width P + t) 0)) (width P) (λ t k. ap (is_line t) (first_at (y * width P + t) (cell_in y t h k) ∙ sym (kept y t h k out))) ∙ sym (settled.lists_are y h).line_count
 
       pub over_lent : P.points ≤ 32 → 2 * P.points ≤ length C' → OverLent P.points (width P) G' L' C' changed'
       over_lent few lc = record { few = few; below = f.below; long = long'; counts_long = lc; places = λ y h. (settled.lists_are y h).raised_places }
@@ -129,7 +129,7 @@ module _ (P : Plan) (wf : WellFormed P) (F G G' : List ℕ) (long : cells P ≤ 
       }
         where
           raised : (y t : ℕ) → y < P.points → t < width P → (get_or (next_cells P F) (y * width P + t) 0 ≡ get_or (take (cells P) F) (y * width P + t) 0 → ⊥) → Raised (width P) L' C' y t
-          raised y t h k ne = f.all_raised_lem y t h k (λ e. ne (sym (second_at (y * width P + t) (cell_in y t h k)) ∙ e ∙ sym (first_at (y * width P + t) (cell_in y t h k))))
+          raised y t h k ne = f.all_raised y t h k (λ e. ne (sym (second_at (y * width P + t) (cell_in y t h k)) ∙ e ∙ sym (first_at (y * width P + t) (cell_in y t h k))))
 
       -- ---- whether the rounds stop
       some_point : 0 < P.points

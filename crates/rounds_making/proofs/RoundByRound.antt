@@ -186,7 +186,7 @@ module _ {bs M : List ℕ} {h : ℕ} {F G L C N D rows : List ℕ} {w mask set :
     pub settle_lends : length N' ≡ length N → SettleLent n w G' F N' D' L C (bit_or set last.changed)
     settle_lends ln =
         let b = accepted_bounded bs r.ready.accepted in
-        let narrow = width_small (plan_of bs).links (plan_of bs).propositions b.links_in_lem b.propositions_in in
+        let narrow = width_small (plan_of bs).links (plan_of bs).propositions b.links_in b.propositions_in in
         rw (en, r.numbers.width_is) (settle_lent (plan_with bs h) well F G G' r.ready.long_first made long' L C last.changed last.lined last.over r.known N' D' set few (omega (arith, narrow)) r.lists_long (rw ln r.notes_long) r.set_below (rw r.numbers.width_is at noted))
 
     -- and the copy of noted cells

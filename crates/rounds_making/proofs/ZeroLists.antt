@@ -65,7 +65,7 @@ module _ (n w : ℕ) (F L C : List ℕ) (wide : 0 < w) (lists_long : (2 * n) * w
     lists_are = λ y h. record {
       raised_places = one_place (2 * y) (omega arith);
       line_places = one_place (2 * y + 1) (omega arith);
-      line_count_lem = counts_one (2 * y + 1) (omega arith) ∙ counted y h w refl;
+      line_count = counts_one (2 * y + 1) (omega arith) ∙ counted y h w refl;
       all_lines = λ t k i. the_place (2 * y + 1) t (omega arith) (only_start y t h k i);
     };
     lines_raised = λ y t h k i. the_place (2 * y) t (omega arith) (only_start y t h k i);

@@ -58,7 +58,7 @@ module _ (P : Plan) (wf : WellFormed P) (A : List ℕ) (sized : length A ≡ cel
   has_lines : (x t : ℕ) → x < P.points → t < width P → 0 < t → Is (is_line P A x t) → In lined x
   has_lines x t h k p i =
       let line : (u : ℕ) → Is (is_line P A x u) → Is (isLineAt u (wait_at P A x u)) = λ u j. rw (line_same u (wait_at P A x u)) j in
-      known.lined_in.has x h (rw (known.lists_are.of_point x h).line_count_lem (count_two (λ u. isLineAt u (wait_at P A x u)) (width P) t k p (line 0 tt) (line t i)))
+      known.lined_in.has x h (rw (known.lists_are.of_point x h).line_count (count_two (λ u. isLineAt u (wait_at P A x u)) (width P) t k p (line 0 tt) (line t i)))
 
   module _ (x : ℕ) (inside : x < P.points) (out : In set x → ⊥) (t u : ℕ) (t_in : t < width P) (u-in : u < width P) where
     above : Dec (t ≡ 0) → (t ≡ 0 → ⊥) → 0 < t

@@ -102,7 +102,7 @@ module _ (w : ℕ) (S T₀ notes L₀ : List ℕ) (n y i : ℕ) (T L : List ℕ)
     before_same = sofar.before_same;
     past_same = sofar.past_same;
     raised_are = record { long = omega (arith, noted.few, sofar.lists_long); within = λ j h. omega (arith, sofar.raised_are j (omega arith), noted.within j h) };
-    all_raised_lem = λ t h d. listed_all t (noted.all t h d);
+    all_raised = λ t h d. listed_all t (noted.all t h d);
     lines_are = sofar.lines_are;
     lists_before = sofar.lists_before;
     lists_past = sofar.lists_past;

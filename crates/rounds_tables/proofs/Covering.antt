@@ -26,7 +26,7 @@ use Rattle.rounds_tables.specs.Known.{AllListed}
 
 module _ (P : Plan) (wf : WellFormed P) (A : List ℕ) (sized : length A ≡ cells P) where
   -- ---- after the round from A
-  module _ (L counts : List ℕ) (all_raised_lem : (y t : ℕ) → y < P.points → t < width P → (get_or (next P A) (y * width P + t) 0 ≡ get_or A (y * width P + t) 0 → ⊥) → Raised (width P) L counts y t) where
+  module _ (L counts : List ℕ) (all_raised : (y t : ℕ) → y < P.points → t < width P → (get_or (next P A) (y * width P + t) 0 ≡ get_or A (y * width P + t) 0 → ⊥) → Raised (width P) L counts y t) where
     abbrev B : List ℕ
     B = next P A
 
@@ -56,7 +56,7 @@ module _ (P : Plan) (wf : WellFormed P) (A : List ℕ) (sized : length A ≡ cel
       -- the second parent of a rule that looks at it
       two : (r : Rule) → InPlan P r → Is (uses_second r) → Parent P (Cell P A) (first_of P B x r t) → Is (is_line P B (second_point P r) u) → Is (fires P r (first_of P B x r t) (second_of P B r u)) → (given_line P B x r t u).point ≡ x → Dec (wait_at P B (second_point P r) u ≡ wait_at P A (second_point P r) u) → Out x r t u
       two r h s p i f e (yes q) = inr (inr (low r h _ _ p (parent (second_point P r) u (second_in P wf A sized x inside r h) u-in q i) f x e))
-      two r h s p i f e (no q) = inr (inl (s, all_raised_lem (second_point P r) u (second_in P wf A sized x inside r h) u-in q))
+      two r h s p i f e (no q) = inr (inl (s, all_raised (second_point P r) u (second_in P wf A sized x inside r h) u-in q))
 
       one : (r : Rule) → InPlan P r → Parent P (Cell P A) (first_of P B x r t) → Is (is_line P B (second_point P r) u) → Is (fires P r (first_of P B x r t) (second_of P B r u)) → (given_line P B x r t u).point ≡ x → Out x r t u
       one (Propagation e) h p i f q = inr (inr (low (Propagation e) h (first_of P B x (Propagation e) t) (starting_line 0) p start f x q))
@@ -67,7 +67,7 @@ module _ (P : Plan) (wf : WellFormed P) (A : List ℕ) (sized : length A ≡ cel
       one (LiteralRemoval j) h p i f q = two (LiteralRemoval j) h tt p i f q (ℕ_discrete _ _)
 
       given : (r : Rule) → InPlan P r → Is (gives P B x r t u) → Dec (wait_at P B (first_point P r x) t ≡ wait_at P A (first_point P r x) t) → Out x r t u
-      given r h g (no q) = inl (all_raised_lem (first_point P r x) t (first_in P wf A sized x inside r h) t_in q)
+      given r h g (no q) = inl (all_raised (first_point P r x) t (first_in P wf A sized x inside r h) t_in q)
       given r h g (yes q) =
           let a : Is (is_line P B (first_point P r x) t) = search (and_l, and_r) in
           let b : Is (is_line P B (second_point P r) u) = search (and_l, and_r) in

@@ -18,7 +18,7 @@ use Rattle.rounds_tables.proofs.LineLists.{line_of, known_few}
 -- ---- the lists of point x are the same in both, and so are their numbers
 pub record SameLists (w : ℕ) (L C L' C' : List ℕ) (x : ℕ) : Type 0 where
   pub raised_count : get_or C' (2 * x) 0 ≡ get_or C (2 * x) 0
-  pub line_count_lem : get_or C' (2 * x + 1) 0 ≡ get_or C (2 * x + 1) 0
+  pub line_count : get_or C' (2 * x + 1) 0 ≡ get_or C (2 * x + 1) 0
   pub entries : (i : ℕ) → 2 * x * w ≤ i → i < (2 * x + 1) * w + w → get_or L' i 0 ≡ get_or L i 0
   pub as_long : length L' ≡ length L
 
@@ -37,17 +37,17 @@ module _ (w : ℕ) (L C L' C' : List ℕ) (x : ℕ) (same : SameLists w L C L' C
   raised_kept t l = listed_kept w L L' (2 * x * w) (get_or C (2 * x) 0) (get_or C' (2 * x) 0) same.raised_count raised_stay t l
 
   pub lists_kept : (A : List ℕ) → PointLists w A L C x → PointLists w A L' C' x
-  lists_kept A p = record { raised_places = places_kept w L L' (2 * x * w) (get_or C (2 * x) 0) (get_or C' (2 * x) 0) same.raised_count raised_stay same.as_long p.raised_places; line_places = places_kept w L L' ((2 * x + 1) * w) (get_or C (2 * x + 1) 0) (get_or C' (2 * x + 1) 0) same.line_count_lem lines_stay same.as_long p.line_places; line_count_lem = same.line_count_lem ∙ p.line_count_lem; all_lines = λ t h k. listed_kept w L L' ((2 * x + 1) * w) (get_or C (2 * x + 1) 0) (get_or C' (2 * x + 1) 0) same.line_count_lem lines_stay t (p.all_lines t h k) }
+  lists_kept A p = record { raised_places = places_kept w L L' (2 * x * w) (get_or C (2 * x) 0) (get_or C' (2 * x) 0) same.raised_count raised_stay same.as_long p.raised_places; line_places = places_kept w L L' ((2 * x + 1) * w) (get_or C (2 * x + 1) 0) (get_or C' (2 * x + 1) 0) same.line_count lines_stay same.as_long p.line_places; line_count = same.line_count ∙ p.line_count; all_lines = λ t h k. listed_kept w L L' ((2 * x + 1) * w) (get_or C (2 * x + 1) 0) (get_or C' (2 * x + 1) 0) same.line_count lines_stay t (p.all_lines t h k) }
     where
       lines_stay : (i : ℕ) → i < get_or C (2 * x + 1) 0 → get_or L' ((2 * x + 1) * w + i) 0 ≡ get_or L ((2 * x + 1) * w + i) 0
-      lines_stay i h = same.entries ((2 * x + 1) * w + i) (omega arith) (omega (arith, p.line_count_lem, count_le (line_of A (x * w)) w))
+      lines_stay i h = same.entries ((2 * x + 1) * w + i) (omega arith) (omega (arith, p.line_count, count_le (line_of A (x * w)) w))
 
 -- ---- the lists of a point, and its lines as listed
 pub lists_of : (w : ℕ) (A L C : List ℕ) (y k r : ℕ) → get_or C (2 * y) 0 ≡ k → get_or C (2 * y + 1) 0 ≡ r → Places L (2 * y * w) k w → LinesAt w A L (y * w) ((2 * y + 1) * w) r → PointLists w A L C y
-lists_of w A L C y k r e f places lines = record { raised_places = rw e places; line_places = rw f lines.places; line_count_lem = f ∙ lines.count_is; all_lines = λ t h l. rw f (lines.all t h l) }
+lists_of w A L C y k r e f places lines = record { raised_places = rw e places; line_places = rw f lines.places; line_count = f ∙ lines.count_is; all_lines = λ t h l. rw f (lines.all t h l) }
 
 pub lines_of_lem : (w : ℕ) (A L C : List ℕ) (y : ℕ) → PointLists w A L C y → LinesAt w A L (y * w) ((2 * y + 1) * w) (get_or C (2 * y + 1) 0)
-lines_of_lem w A L C y p = record { places = p.line_places; count_is = p.line_count_lem; all = p.all_lines }
+lines_of_lem w A L C y p = record { places = p.line_places; count_is = p.line_count; all = p.all_lines }
 
 -- ---- both numbers of a point written
 module _ (C : List ℕ) (y a b : ℕ) (inside : 2 * y + 1 < length C) where
@@ -85,7 +85,7 @@ module _ (w : ℕ) (A L₀ C₀ L C L' : List ℕ) (y k : ℕ) (inside : 2 * y +
   second_is = second_written C y k k room
 
   same_below : (x : ℕ) → x < y → SameLists w L C L' C' x
-  same_below x h = record { raised_count = others_written C y k k room (2 * x) (λ q. omega arith) (λ q. omega arith); line_count_lem = others_written C y k k room (2 * x + 1) (λ q. omega arith) (λ q. omega arith); entries = λ i p q. one.lists_before i (omega (arith, row_within x y (2 * w) h)); as_long = as_long }
+  same_below x h = record { raised_count = others_written C y k k room (2 * x) (λ q. omega arith) (λ q. omega arith); line_count = others_written C y k k room (2 * x + 1) (λ q. omega arith) (λ q. omega arith); entries = λ i p q. one.lists_before i (omega (arith, row_within x y (2 * w) h)); as_long = as_long }
 
   own_lists : PointLists w A L' C' y
   own_lists = lists_of w A L' C' y k k first_is second_is one.raised_are.places one.lines_are

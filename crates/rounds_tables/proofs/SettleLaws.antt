@@ -43,7 +43,7 @@ pub record Done (w : ℕ) (S T₀ T noted L C : List ℕ) (changed x : ℕ) : Ty
   pub no_notes : get_or noted x 0 ≡ 0
   pub lists_are : PointLists w S L C x
   pub raised_few : get_or C (2 * x) 0 ≤ w
-  pub all_raised_lem : (t : ℕ) → t < w → (get_or S (x * w + t) 0 ≡ get_or T₀ (x * w + t) 0 → ⊥) → Raised w L C x t
+  pub all_raised : (t : ℕ) → t < w → (get_or S (x * w + t) 0 ≡ get_or T₀ (x * w + t) 0 → ⊥) → Raised w L C x t
   pub raised_in : 0 < get_or C (2 * x) 0 → In changed x
 
 -- a pass leaves point x alone
@@ -56,7 +56,7 @@ untouched_kept : (w : ℕ) (T₀ noted₀ L₀ C₀ T noted L C T' noted' L' C' 
 untouched_kept w T₀ noted₀ L₀ C₀ T noted L C T' noted' L' C' x u a = record {
   cells_same = λ t h. a.cells_same t h ∙ u.cells_same t h;
   noted_same = a.noted_same ∙ u.noted_same;
-  count_same = a.lists_same.line_count_lem ∙ u.count_same;
+  count_same = a.lists_same.line_count ∙ u.count_same;
   lines_same = λ i h. a.lists_same.entries ((2 * x + 1) * w + i) (omega arith) (omega arith) ∙ u.lines_same i h;
 }
 
@@ -66,7 +66,7 @@ done_kept w S T₀ T noted L C T' noted' L' C' changed changed' x d a more = rec
   no_notes = a.noted_same ∙ d.no_notes;
   lists_are = lists_kept w L C L' C' x a.lists_same d.raised_few S d.lists_are;
   raised_few = omega (arith, a.lists_same.raised_count, d.raised_few);
-  all_raised_lem = λ t h k. raised_kept w L C L' C' x a.lists_same d.raised_few t (d.all_raised_lem t h k);
+  all_raised = λ t h k. raised_kept w L C L' C' x a.lists_same d.raised_few t (d.all_raised t h k);
   raised_in = λ h. more (d.raised_in (omega (arith, a.lists_same.raised_count)));
 }
 
@@ -150,7 +150,7 @@ module _ (n w : ℕ) (S T₀ N noted₀ L₀ C₀ : List ℕ) (all : ℕ) (lent 
     no_notes = now-none;
     lists_are = lists_of w S L C x 0 (get_or C (2 * x + 1) 0) few refl (record { long = omega arith; within = λ i k. absurd (omega arith) }) (lines_kept w T S L L (x * w) ((2 * x + 1) * w) (get_or C (2 * x + 1) 0) lines (same_lines w T S (x * w) (λ t k. sym (now t k))) lines.places.long (λ i k. refl));
     raised_few = omega arith;
-    all_raised_lem = λ t k d. absurd (d (cells_agree x h none t k));
+    all_raised = λ t k d. absurd (d (cells_agree x h none t k));
     raised_in = λ k. absurd (omega arith);
   }
     where
@@ -237,7 +237,7 @@ module _ (n w : ℕ) (S T₀ N noted₀ L₀ C₀ : List ℕ) (all : ℕ) (lent 
           other i d = get_or-set_other C (2 * y) i (get_or noted y 0) 0 d
 
           apart : (x : ℕ) → x < n → (x ≡ y → ⊥) → Apart w T noted L C T (set noted y 0) L (set C (2 * y) (get_or noted y 0)) x
-          apart x k q = record { cells_same = λ t l. refl; noted_same = noted_cleared 0 x q; lists_same = record { raised_count = other (2 * x) (λ r. q (omega arith)); line_count_lem = other (2 * x + 1) (λ r. omega arith); entries = λ i a b. refl; as_long = refl } }
+          apart x k q = record { cells_same = λ t l. refl; noted_same = noted_cleared 0 x q; lists_same = record { raised_count = other (2 * x) (λ r. q (omega arith)); line_count = other (2 * x + 1) (λ r. omega arith); entries = λ i a b. refl; as_long = refl } }
 
           own : Done w S T₀ T (set noted y 0) L (set C (2 * y) (get_or noted y 0)) changed y
           own = quiet T (set noted y 0) L (set C (2 * y) (get_or noted y 0)) changed y inside (sym was.noted_same ∙ e) (get_or-set_same noted y 0 0 room.0) (get_or-set_same C (2 * y) (get_or noted y 0) 0 (omega (arith, room.1)) ∙ e) (omega (arith, row_fits y inside, sofar.lists_long)) was.cells_same (rw (other (2 * y + 1) (λ r. omega arith)) own_lines)
@@ -269,7 +269,7 @@ module _ (n w : ℕ) (S T₀ N noted₀ L₀ C₀ : List ℕ) (all : ℕ) (lent 
               go (no a) = after.lists_past i (omega (arith, row_within y x w (omega arith)))
 
           apart : (x : ℕ) → x < n → (x ≡ y → ⊥) → Apart w T noted L C T' (set noted y 0) L' C' x
-          apart x j q = record { cells_same = λ t l. cell_apart x t j q l; noted_same = noted_cleared 0 x q; lists_same = record { raised_count = other (2 * x) (λ r. q (omega arith)) (λ r. omega arith); line_count_lem = other (2 * x + 1) (λ r. omega arith) (λ r. q (omega arith)); entries = λ i u v. entry_apart x i q u v; as_long = ll } }
+          apart x j q = record { cells_same = λ t l. cell_apart x t j q l; noted_same = noted_cleared 0 x q; lists_same = record { raised_count = other (2 * x) (λ r. q (omega arith)) (λ r. omega arith); line_count = other (2 * x + 1) (λ r. omega arith) (λ r. q (omega arith)); entries = λ i u v. entry_apart x i q u v; as_long = ll } }
 
           few : get_or noted y 0 ≤ w
           few = omega (arith, was.noted_same, (notes_at y inside).few)
@@ -286,7 +286,7 @@ module _ (n w : ℕ) (S T₀ N noted₀ L₀ C₀ : List ℕ) (all : ℕ) (lent 
             no_notes = get_or-set_same noted y 0 0 room.0;
             lists_are = lists_of w S L' C' y (get_or noted y 0) known first_is second_is after.raised_are (lines_kept w T' S L' L' (y * w) ((2 * y + 1) * w) known after.lines_are (same_lines w T' S (y * w) (λ t l. sym (after.cells_are t l))) after.lines_are.places.long (λ i l. refl));
             raised_few = omega (arith, few, first_is);
-            all_raised_lem = λ t l d. rw first_is (after.all_raised_lem t l (λ q. d (q ∙ was.cells_same t l)));
+            all_raised = λ t l d. rw first_is (after.all_raised t l (λ q. d (q ∙ was.cells_same t l)));
             raised_in = λ l. in_right changed b y (rw e (own_bit y));
           }
 
@@ -319,5 +319,5 @@ module _ (n w : ℕ) (S T₀ N noted₀ L₀ C₀ : List ℕ) (all : ℕ) (lent 
       target_is = target_is;
       no_notes = record { long = omega (arith, lent.notes_are.long, sofar.noted_long); none = λ x h. (all_done x h).no_notes };
       lists_are = λ x h. (all_done x h).lists_are;
-      raised_from = record { below = sofar.changed_below; all_raised_lem = λ x t h. (all_done x h).all_raised_lem t; raised_in = λ x h. (all_done x h).raised_in; differs = sofar.differs };
+      raised_from = record { below = sofar.changed_below; all_raised = λ x t h. (all_done x h).all_raised t; raised_in = λ x h. (all_done x h).raised_in; differs = sofar.differs };
     }

@@ -19,7 +19,7 @@ pub record RoundNoted (n w : ℕ) (A B notes noted : List ℕ) (set : ℕ) : Typ
 -- the raised places of the table B are those where it is above A, and they are in the points of the set `changed`
 pub record RaisedFrom (n w : ℕ) (A B lists counts : List ℕ) (changed : ℕ) : Type 0 where
   pub below : changed < 2 ^ n
-  pub all_raised_lem : (y t : ℕ) → y < n → t < w → (get_or B (y * w + t) 0 ≡ get_or A (y * w + t) 0 → ⊥) → Raised w lists counts y t
+  pub all_raised : (y t : ℕ) → y < n → t < w → (get_or B (y * w + t) 0 ≡ get_or A (y * w + t) 0 → ⊥) → Raised w lists counts y t
   pub raised_in : (y : ℕ) → y < n → 0 < get_or counts (2 * y) 0 → In changed y
   pub differs : (y : ℕ) → y < n → In changed y → (t : ℕ) × (t < w) × (get_or A (y * w + t) 0 < get_or B (y * w + t) 0)
 

@@ -43,7 +43,7 @@ pub record AfterPoint (w : ℕ) (source target target' lists lists' : List ℕ) 
   pub past_same : (c : ℕ) → y * w + w ≤ c → get_or target' c 0 ≡ get_or target c 0
   -- the raised places, and the lines
   pub raised_are : Places lists' (2 * y * w) n w
-  pub all_raised_lem : (t : ℕ) → t < w → (get_or source (y * w + t) 0 ≡ get_or target (y * w + t) 0 → ⊥) → Listed lists' (2 * y * w) n t
+  pub all_raised : (t : ℕ) → t < w → (get_or source (y * w + t) 0 ≡ get_or target (y * w + t) 0 → ⊥) → Listed lists' (2 * y * w) n t
   pub lines_are : LinesAt w target' lists' (y * w) ((2 * y + 1) * w) known
   -- the lists of other points stay
   pub lists_before : (c : ℕ) → c < 2 * y * w → get_or lists' c 0 ≡ get_or lists c 0

@@ -44,11 +44,11 @@ module _ {Q P : Plan} (f : FewerRows Q P) where
 
   rule_as : (r : Rule) → InPlan Q r → AsRule Q P r
   rule_as (Propagation (PlanEdge i)) h =
-      let (j, k, s) = f.edge_among_lem i h in
+      let (j, k, s) = f.edge_among i h in
       edge_as (PlanEdge j) k (λ t. record { from = s.from_is t; to = s.to_is t; label = s.label_is t; up = s.up_is t; down = s.down_is t })
   rule_as (Propagation (HorizonEdge x)) h = edge_as (HorizonEdge x) (h.0, rw f.points_are at h.1) (rw f.horizon_is)
   rule_as (Propagation (UpperBound i)) h = edge_as (UpperBound i) (rw f.links_are at h) (rw (f.activation_is i h, f.finish_is i h, f.most_is i h))
-  rule_as (Propagation (LowerBound i)) h = edge_as (LowerBound i) (rw f.links_are at h) (rw (f.activation_is i h, f.finish_is i h, f.least_is i h))
+  rule_as (Propagation (LowerBound i)) h = edge_as (LowerBound i) (rw f.links_are at h) (cc (f.activation_is i h, f.finish_is i h, f.least_is i h, f.most_is i h))
   rule_as (LowerCase i) h = record { rule = LowerCase i; row = rw f.links_are at h; fires_as = λ l m. rw (f.finish_is i h, f.least_is i h, f.propositions_are); gives_as = λ l m. rw (f.activation_is i h, f.least_is i h) }
   rule_as (UpperCase i) h = record { rule = UpperCase i; row = rw f.links_are at h; fires_as = λ l m. rw (f.activation_is i h, f.propositions_are); gives_as = λ l m. rw (f.finish_is i h, f.most_is i h) }
   rule_as (LetterRemoval i) h = record { rule = LetterRemoval i; row = rw f.links_are at h; fires_as = λ l m. rw (f.activation_is i h); gives_as = λ l m. rw (f.least_is i h, f.propositions_are) }
@@ -78,7 +78,7 @@ module _ {Q P : Plan} (f : FewerRows Q P) where
   fewer_reaches c w r = record { lines = r.lines; derives = fewer_derivation r.lines r.derives; by = record { line = r.by.line; among = r.by.among; belongs = sym (fewer_cell r.by.line) ∙ r.by.belongs; waits = r.by.waits } }
 
   pub fewer_self_wait : SelfWait Q → SelfWait P
-  fewer_self_wait s = record { lines = s.lines; derives = fewer_derivation s.lines s.derives; by = record { line = s.by.line; among = s.by.among; first_alarm = s.by.first_alarm; is_plain_lem = rw f.propositions_are at s.by.is_plain_lem } }
+  fewer_self_wait s = record { lines = s.lines; derives = fewer_derivation s.lines s.derives; by = record { line = s.by.line; among = s.by.among; first_alarm = s.by.first_alarm; is_plain = rw f.propositions_are at s.by.is_plain } }
 
   -- ---- one round
   -- which lines a table holds depends on the sizes alone

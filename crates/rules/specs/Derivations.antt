@@ -69,7 +69,7 @@ pub record SelfWaitBy (P : Plan) (ks : List Line) : Type 0 where
   pub line : Line
   pub among : Memᴰ line ks
   pub first_alarm : line.point ≡ 0
-  pub is_plain_lem : Is (plain P.propositions line.label)
+  pub is_plain : Is (plain P.propositions line.label)
 
 -- 7.4: some derivation does
 pub record SelfWait (P : Plan) : Type 0 where

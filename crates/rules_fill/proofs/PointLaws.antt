@@ -135,14 +135,14 @@ module _ (P : Plan) (wf : WellFormed P) (A : List ℕ) (len : length A ≡ cells
   pub record Found (l : Line) : Type 0 where
     pub place_of : ℕ
     pub place_in : place_of < width P
-    pub is_line_lem : Is (is_line P A l.point place_of)
+    pub is_line : Is (is_line P A l.point place_of)
     pub to : ℕ
     pub no_less : l.wait ≤ to
     pub line_is : line_of P A l.point place_of ≡ waiting l to
 
   found : (l : Line) → Parent P (Cell P A) l → Found l
-  found l (inl s) = record { place_of = 0; place_in = one-le-mul (pow_pos _) (four_pos _); is_line_lem = tt; to = wait_at P A l.point 0; no_less = omega (arith, no_wait s); line_is = λ i. record { point = l.point; set = (zero-div (4 ^ P.propositions) ∙ sym (no_set s)) i; label = (zero-mod (4 ^ P.propositions) ∙ sym (no_label s)) i; wait = wait_at P A l.point 0 } }
-  found l (inr c) = record { place_of = place P l; place_in = place_lt l c.inside; is_line_lem = or_right (eqb (place P l) 0) (ltb 0 (wait_at P A l.point (place P l))) (lt→ltb 0 (wait_at P A l.point (place P l)) (rw held c.above)); to = l.wait; no_less = le_refl _; line_is = λ i. record { point = l.point; set = digit_div l.set (4 ^ P.propositions) l.label c.inside.label_in i; label = digit_mod l.set (4 ^ P.propositions) l.label c.inside.label_in i; wait = held i } }
+  found l (inl s) = record { place_of = 0; place_in = one-le-mul (pow_pos _) (four_pos _); is_line = tt; to = wait_at P A l.point 0; no_less = omega (arith, no_wait s); line_is = λ i. record { point = l.point; set = (zero-div (4 ^ P.propositions) ∙ sym (no_set s)) i; label = (zero-mod (4 ^ P.propositions) ∙ sym (no_label s)) i; wait = wait_at P A l.point 0 } }
+  found l (inr c) = record { place_of = place P l; place_in = place_lt l c.inside; is_line = or_right (eqb (place P l) 0) (ltb 0 (wait_at P A l.point (place P l))) (lt→ltb 0 (wait_at P A l.point (place P l)) (rw held c.above)); to = l.wait; no_less = le_refl _; line_is = λ i. record { point = l.point; set = digit_div l.set (4 ^ P.propositions) l.label c.inside.label_in i; label = digit_mod l.set (4 ^ P.propositions) l.label c.inside.label_in i; wait = held i } }
     where
       held : wait_at P A l.point (place P l) ≡ l.wait
       held = ap (λ (x : ℕ). get_or A x 0) (sym (cell_place l)) ∙ c.holds
@@ -291,11 +291,11 @@ module _ (P : Plan) (wf : WellFormed P) (A : List ℕ) (len : length A ≡ cells
     second_found (LetterRemoval i) l m v h p f =
         let n = found m p in
         let e : line_of P A (P.activation i) n.place_of ≡ waiting m n.to = ap (λ (y : ℕ). line_of P A y n.place_of) (sym f.1) ∙ n.line_is in
-        (n.place_of, n.place_in, subst (λ (y : ℕ). Is (is_line P A y n.place_of)) f.1 n.is_line_lem, subst (λ (z : Line). Fires P (LetterRemoval i) (waiting l v) z) (sym e) (fires_mono P (LetterRemoval i) l m v n.to h n.no_less f), _, result_mono P (LetterRemoval i) l m v n.to h n.no_less, ap (result P (LetterRemoval i) (waiting l v)) e ∙ sym (result_cell P (LetterRemoval i) l m v n.to))
+        (n.place_of, n.place_in, subst (λ (y : ℕ). Is (is_line P A y n.place_of)) f.1 n.is_line, subst (λ (z : Line). Fires P (LetterRemoval i) (waiting l v) z) (sym e) (fires_mono P (LetterRemoval i) l m v n.to h n.no_less f), _, result_mono P (LetterRemoval i) l m v n.to h n.no_less, ap (result P (LetterRemoval i) (waiting l v)) e ∙ sym (result_cell P (LetterRemoval i) l m v n.to))
     second_found (LiteralRemoval j) l m v h p f =
         let n = found m p in
         let e : line_of P A (P.observer j) n.place_of ≡ waiting m n.to = ap (λ (y : ℕ). line_of P A y n.place_of) (sym f.1) ∙ n.line_is in
-        (n.place_of, n.place_in, subst (λ (y : ℕ). Is (is_line P A y n.place_of)) f.1 n.is_line_lem, subst (λ (z : Line). Fires P (LiteralRemoval j) (waiting l v) z) (sym e) (fires_mono P (LiteralRemoval j) l m v n.to h n.no_less f), _, result_mono P (LiteralRemoval j) l m v n.to h n.no_less, ap (result P (LiteralRemoval j) (waiting l v)) e ∙ sym (result_cell P (LiteralRemoval j) l m v n.to))
+        (n.place_of, n.place_in, subst (λ (y : ℕ). Is (is_line P A y n.place_of)) f.1 n.is_line, subst (λ (z : Line). Fires P (LiteralRemoval j) (waiting l v) z) (sym e) (fires_mono P (LiteralRemoval j) l m v n.to h n.no_less f), _, result_mono P (LiteralRemoval j) l m v n.to h n.no_less, ap (result P (LiteralRemoval j) (waiting l v)) e ∙ sym (result_cell P (LiteralRemoval j) l m v n.to))
 
     pub all : (t w : ℕ) → t < width P → FromTable P A (x * width P + t) w → (v : ℕ) × (w ≤ v) × Row P A x t v
     unfolding Second
@@ -342,7 +342,7 @@ module _ (P : Plan) (wf : WellFormed P) (A : List ℕ) (len : length A ≡ cells
 
         going : Is (gives P A x r n.place_of s.0)
         going =
-            let a : Is (is_line P A (first_point P r x) n.place_of) = subst (λ (y : ℕ). Is (is_line P A y n.place_of)) e n.is_line_lem in
+            let a : Is (is_line P A (first_point P r x) n.place_of) = subst (λ (y : ℕ). Is (is_line P A y n.place_of)) e n.is_line in
             let b : Is (is_line P A (second_point P r) s.0) = s.2 in
             let c : Is (fires P r (first_of P A x r n.place_of) (second_of P A r s.0)) = facts_fire P r (first_of P A x r n.place_of) (second_of P A r s.0) (subst (λ (z : Line). Fires P r z (second_of P A r s.0)) (sym at_first) s.3) in
             let d : Is (eqb (given_line P A x r n.place_of s.0).point x) = eq→eqb (ap (λ (z : Line). z.point) res ∙ ap (λ (z : Line). z.point) g.gave ∙ k_point) in

@@ -64,19 +64,19 @@ line_fits : (plan : List ℕ) → Accepted plan → (c w : ℕ) → c < cells (p
 line_fits plan a c w h small =
     let d = accepted_bounded plan a in
     let r = at_range (plan_of plan) [] c h in
-    let s : 2 ^ (plan_of plan).links ≤ 2 ^ 4 = pow-le-pow_right {n = 2} (omega arith) d.links_in_lem in
-    record { point_fits = omega (arith, r.point_in, d.points_in); set_fits = omega (arith, r.set_in); label_fits_lem = omega (arith, r.label_in, labels_small (plan_of plan).propositions d.propositions_in); wait_fits_lem = small }
+    let s : 2 ^ (plan_of plan).links ≤ 2 ^ 4 = pow-le-pow_right {n = 2} (omega arith) d.links_in in
+    record { point_fits = omega (arith, r.point_in, d.points_in); set_fits = omega (arith, r.set_in); label_fits = omega (arith, r.label_in, labels_small (plan_of plan).propositions d.propositions_in); wait_fits = small }
 
 module _ (f : Frame) (c w : ℕ) where
   pub line_made : LineMade f c w (shifted f c w)
   line_made = record {
-    is_line_lem = λ P q. line_is P f c w q;
+    is_line = λ P q. line_is P f c w q;
     fits = λ plan a q h small. subst Fitting (sym (line_is (plan_of plan) f c w q)) (line_fits plan a c w h small);
   }
 
   -- with the wait that a table holds
   pub line_read : (T : List ℕ) (l : Line) → w ≡ get_or T c 0 → w < 4294967296 → LineMade f c w l → LineRead T f c l
-  line_read T l e small m = record { is_line_lem = λ P q. m.is_line_lem P q ∙ ap (line_with P c) e; fits = λ plan a q h. m.fits plan a q h small }
+  line_read T l e small m = record { is_line = λ P q. m.is_line P q ∙ ap (line_with P c) e; fits = λ plan a q h. m.fits plan a q h small }
 
 -- ---- the place of a line, its set and label cut by the masks
 pub cut_is : (P : Plan) (f : Frame) (l : Line) (q : ℕ) → Framed P f → q ≡ 4 ^ P.propositions → bit_and l.set f.sets * q + bit_and l.label f.labels ≡ cut_place P l

@@ -47,7 +47,7 @@ module _ (P : Plan) (T : List ℕ) (k : Line) (r : Rule) (c d : ℕ) where
   unfolding gives_line_of
   pair_grounds l b row hc first_holds hd e q t =
       let h = both in
-      record { row = row; first_in = hc; second_in = hd; first_line_lem = first_holds; second_line = search and_l; fire = search (and_l, and_r); gave = same_equal _ _ (search (and_l, and_r)) }
+      record { row = row; first_in = hc; second_in = hd; first_line = first_holds; second_line = search and_l; fire = search (and_l, and_r); gave = same_equal _ _ (search (and_l, and_r)) }
     where
       both : Is (gives_with P T k r (line_at P T c) d)
       both = is (ap (λ (z : Line). gives_with P T k r z d) (sym e) ∙ sym q ∙ t)
@@ -78,15 +78,15 @@ module _ (P : Plan) (T : List ℕ) where
 
   module _ (k : Line) (c : ℕ) where
     pub empty_first : (r : Rule) (d : ℕ) (b : Bool) → b ≡ holds_line P T c → b ≡ false → SecondAt P T k r c d → ⊥
-    empty_first r d b e t g = is_not (sym e ∙ t) g.first_line_lem
+    empty_first r d b e t g = is_not (sym e ∙ t) g.first_line
 
     -- a rule of one parent takes cell 0 as its second
     start_second : (r : Rule) → uses_second r ≡ false → 0 < cells P → (d : ℕ) → SecondAt P T k r c d → SecondAt P T k r c 0
-    start_second (Propagation e) t z d g = record { row = g.row; first_in = g.first_in; second_in = z; first_line_lem = g.first_line_lem; second_line = start_holds; fire = g.fire; gave = g.gave }
-    start_second (LowerCase i) t z d g = record { row = g.row; first_in = g.first_in; second_in = z; first_line_lem = g.first_line_lem; second_line = start_holds; fire = g.fire; gave = g.gave }
-    start_second (UpperCase i) t z d g = record { row = g.row; first_in = g.first_in; second_in = z; first_line_lem = g.first_line_lem; second_line = start_holds; fire = g.fire; gave = g.gave }
+    start_second (Propagation e) t z d g = record { row = g.row; first_in = g.first_in; second_in = z; first_line = g.first_line; second_line = start_holds; fire = g.fire; gave = g.gave }
+    start_second (LowerCase i) t z d g = record { row = g.row; first_in = g.first_in; second_in = z; first_line = g.first_line; second_line = start_holds; fire = g.fire; gave = g.gave }
+    start_second (UpperCase i) t z d g = record { row = g.row; first_in = g.first_in; second_in = z; first_line = g.first_line; second_line = start_holds; fire = g.fire; gave = g.gave }
     start_second (LetterRemoval i) t z d g = absurd (is_not t tt)
-    start_second (OwnLiteral j) t z d g = record { row = g.row; first_in = g.first_in; second_in = z; first_line_lem = g.first_line_lem; second_line = start_holds; fire = g.fire; gave = g.gave }
+    start_second (OwnLiteral j) t z d g = record { row = g.row; first_in = g.first_in; second_in = z; first_line = g.first_line; second_line = start_holds; fire = g.fire; gave = g.gave }
     start_second (LiteralRemoval j) t z d g = absurd (is_not t tt)
 
     pub second_start : (r : Rule) → uses_second r ≡ false → FirstAt P T k r c → SecondAt P T k r c 0

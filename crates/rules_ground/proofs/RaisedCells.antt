@@ -78,7 +78,7 @@ module _ (P : Plan) (wf : WellFormed P) (T : List ℕ) (len : length T ≡ cells
 
     -- the cells of such a pair are a ground of the line that a table with that wait holds there
     pair_ground : (U : List ℕ) → Row P T x t (get_or U (x * width P + t) 0) → Grounded P T (line_at P U (x * width P + t))
-    pair_ground U q = record { ground = record { by = r; first = c; second = d }; grounds = record { row = q.row; first_in = cell_in y a y_in p.first_lt; second_in = cell_in z b z_in b_lt; first_line_lem = holds_there y a y_in p.first_lt (first_is p.does_give); second_line = holds_there z b z_in b_lt (second_is p.does_give); fire = subst Is (ap (λ (l : Line). fires P r l (second_of P T r b)) first_line_lem ∙ ap (fires P r (line_at P T c)) second_line) (fired p.does_give); gave = ap (λ (l : Line). result P r l (line_at P T d)) (sym first_line_lem) ∙ ap (result P r (first_of P T x r a)) (sym second_line) ∙ is_line_lem } }
+    pair_ground U q = record { ground = record { by = r; first = c; second = d }; grounds = record { row = q.row; first_in = cell_in y a y_in p.first_lt; second_in = cell_in z b z_in b_lt; first_line = holds_there y a y_in p.first_lt (first_is p.does_give); second_line = holds_there z b z_in b_lt (second_is p.does_give); fire = subst Is (ap (λ (l : Line). fires P r l (second_of P T r b)) first_line_lem ∙ ap (fires P r (line_at P T c)) second_line) (fired p.does_give); gave = ap (λ (l : Line). result P r l (line_at P T d)) (sym first_line_lem) ∙ ap (result P r (first_of P T x r a)) (sym second_line) ∙ is_line_lem } }
       where
         r : Rule
         r = q.rule

@@ -98,8 +98,8 @@ module _ (bs marks T : List ℕ) (s : Search) (given : Searched bs marks T s) wh
 
   pub in_labels : (l : Line) (c : ℕ) → c < cells (plan_of bs) → LineRead T s.frame c l → InLabels (plan_of bs) l
   in_labels l c h e = record {
-    label_in = subst (λ (z : Line). z.label < 4 ^ (plan_of bs).propositions) (sym (e.is_line_lem (plan_of bs) given.framed)) (at_range (plan_of bs) T c h).label_in;
-    wait_in = omega (arith, (e.fits bs given.accepted given.framed h).wait_fits_lem);
+    label_in = subst (λ (z : Line). z.label < 4 ^ (plan_of bs).propositions) (sym (e.is_line (plan_of bs) given.framed)) (at_range (plan_of bs) T c h).label_in;
+    wait_in = omega (arith, (e.fits bs given.accepted given.framed h).wait_fits);
   }
 
   -- the cells of a point of the plan

@@ -20,8 +20,8 @@ pub record Framed (P : Plan) (f : Frame) : Type 0 where
 pub record Fitting (l : Line) : Type 0 where
   pub point_fits : l.point < 256
   pub set_fits : l.set < 256
-  pub label_fits_lem : l.label < 256
-  pub wait_fits_lem : l.wait < 4294967296
+  pub label_fits : l.label < 256
+  pub wait_fits : l.wait < 4294967296
 
 -- the line of cell c that waits w
 abbrev pub line_with : Plan → ℕ → ℕ → Line
@@ -29,10 +29,10 @@ line_with P c w = record { point = c / 4 ^ P.propositions / 2 ^ P.links; set = c
 
 -- the same, for any plan that the frame is of
 pub record LineMade (f : Frame) (c w : ℕ) (l : Line) : Type 0 where
-  pub is_line_lem : (P : Plan) → Framed P f → l ≡ line_with P c w
+  pub is_line : (P : Plan) → Framed P f → l ≡ line_with P c w
   pub fits : (plan : List ℕ) → Accepted plan → Framed (plan_of plan) f → c < cells (plan_of plan) → w < 4294967296 → Fitting l
 
 -- the line of cell c with a table's wait
 pub record LineRead (T : List ℕ) (f : Frame) (c : ℕ) (l : Line) : Type 0 where
-  pub is_line_lem : (P : Plan) → Framed P f → l ≡ line_at P T c
+  pub is_line : (P : Plan) → Framed P f → l ≡ line_at P T c
   pub fits : (plan : List ℕ) → Accepted plan → Framed (plan_of plan) f → c < cells (plan_of plan) → Fitting l

@@ -28,7 +28,7 @@ pub record Grounds (P : Plan) (T : List ℕ) (k : Line) (g : Ground) : Type 0 wh
   pub row : InPlan P g.by
   pub first_in : g.first < cells P
   pub second_in : g.second < cells P
-  pub first_line_lem : Is (holds_line P T g.first)
+  pub first_line : Is (holds_line P T g.first)
   pub second_line : Is (holds_line P T g.second)
   pub fire : Is (fires P g.by (line_at P T g.first) (line_at P T g.second))
   pub gave : result P g.by (line_at P T g.first) (line_at P T g.second) ≡ k

@@ -52,7 +52,7 @@ module _ {P : Plan} {q : ℕ} (wf : WellFormed P) (some : 0 < q) (panel : Panel 
       let l = s.by.line in
       let d = reached_all P Derived step l (record { lines = s.lines; derives = s.derives; among = s.by.among }) in
       let r = longest l.label in
-      let a = d.holds.waits r (record { label_true = put_true P l.label (λ _. true); set_longest = λ i k c. refl; none_told = λ j k e c. plain_known P.propositions l.label j s.by.is_plain_lem k e }) in
+      let a = d.holds.waits r (record { label_true = put_true P l.label (λ _. true); set_longest = λ i k c. refl; none_told = λ j k e c. plain_known P.propositions l.label j s.by.is_plain k e }) in
       let t : panel.strategy.time r l.point ≡ 0 = ap (panel.strategy.time r) s.by.first_alarm ∙ panel.viable.first_at_start r in
       omega (arith, mul-le-mul some d.above)
 

@@ -68,7 +68,7 @@ module _ {bs M : List ℕ} {horizon : ℕ} {F L counts rows : List ℕ} {w mask 
   few = (accepted_bounded bs lent.accepted).propositions_in
 
   narrow : w ≤ 65536
-  narrow = rw lent.numbers.width_is (omega (arith, width_small (plan_of bs).links (plan_of bs).propositions (accepted_bounded bs lent.accepted).links_in_lem few))
+  narrow = rw lent.numbers.width_is (omega (arith, width_small (plan_of bs).links (plan_of bs).propositions (accepted_bounded bs lent.accepted).links_in few))
 
   -- the count of a point's raised cells lies in the list of counts
   pub point_counted : (y : ℕ) → y < (plan_of bs).points → (y < 32) × (2 * y < length counts)

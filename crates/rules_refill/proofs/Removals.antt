@@ -99,7 +99,7 @@ module _ {w : ℕ} {F L counts : List ℕ} {x : ℕ} (lists : PointLists w F L c
     where
       go : Dec (get_or F (x * w + t) 0 ≡ 0) → get_or F (x * w + t) 0 ≡ 0
       go (yes e) = e
-      go (no e) = absurd (omega (arith, few, lists.line_count_lem, count_two (λ t. is_line t (get_or F (x * w + t) 0)) w t h (omega arith) (start_line _) (line_above t _ (omega arith))))
+      go (no e) = absurd (omega (arith, few, lists.line_count, count_two (λ t. is_line t (get_or F (x * w + t) 0)) w t h (omega arith) (start_line _) (line_above t _ (omega arith))))
 
   from_start : (other mask add t : ℕ) → t < w → (C : List ℕ) → Dec (t ≡ 0) → C ≡ remove_cell w F other mask add t (get_or F (x * w + t) 0) C
   unfolding remove_cell touches

@@ -28,7 +28,7 @@ pub record Covered (P : Plan) (A L counts : List ℕ) : Type 0 where
 pub record PointLists (w : ℕ) (A L counts : List ℕ) (y : ℕ) : Type 0 where
   pub raised_places : Places L (2 * y * w) (get_or counts (2 * y) 0) w
   pub line_places : Places L ((2 * y + 1) * w) (get_or counts (2 * y + 1) 0) w
-  pub line_count_lem : get_or counts (2 * y + 1) 0 ≡ count_below (λ t. is_line t (get_or A (y * w + t) 0)) w
+  pub line_count : get_or counts (2 * y + 1) 0 ≡ count_below (λ t. is_line t (get_or A (y * w + t) 0)) w
   pub all_lines : (t : ℕ) → t < w → Is (is_line t (get_or A (y * w + t) 0)) → Lined w L counts y t
 
 pub record Lists (P : Plan) (A L counts : List ℕ) : Type 0 where

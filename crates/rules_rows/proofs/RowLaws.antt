@@ -67,7 +67,7 @@ module _ (P : Plan) (x : ℕ) where
 
 -- ---- rows read
 pub link_few : (bs : List ℕ) → Accepted bs → (i : ℕ) → i < (plan_of bs).links → i < 4
-link_few bs a i h = omega (arith, (accepted_bounded bs a).links_in_lem)
+link_few bs a i h = omega (arith, (accepted_bounded bs a).links_in)
 
 -- the row of an edge, from its entries
 pub edge_row_read : (P : Plan) (A : List ℕ) (i t l u d : ℕ) → RowsRead P A → i < P.edges → t ≡ get_or A (52 + 5 * i) 0 → l ≡ get_or A (52 + 5 * i + 1) 0 → u ≡ get_or A (52 + 5 * i + 2) 0 → d ≡ get_or A (52 + 5 * i + 3) 0 → d < 65536 → EdgeRow P (PlanEdge i) (record { from = t; avoid = 0; add = l; up = u; down = d })
@@ -105,14 +105,14 @@ module _ (P : Plan) (few : Bounded P) (A : List ℕ) (long : 692 ≤ length A) w
 
   links_within : Within 36 52 A (links_put P A)
   unfolding links_put link_put
-  links_within = steps_within 36 52 (link_put P) P.links (λ i h B. within_wider (36 + 4 * i) (36 + 4 * i + 4) 36 52 B (link_put P i B) (omega arith) (omega (arith, few.links_in_lem)) (four_within (36 + 4 * i) (P.activation i) (P.finish i) (P.least i) (P.most i) B)) A
+  links_within = steps_within 36 52 (link_put P) P.links (λ i h B. within_wider (36 + 4 * i) (36 + 4 * i + 4) 36 52 B (link_put P i B) (omega arith) (omega (arith, few.links_in)) (four_within (36 + 4 * i) (P.activation i) (P.finish i) (P.least i) (P.most i) B)) A
 
   -- an entry that link i sets
   link_at : (i k v : ℕ) → i < P.links → k < 40 + 4 * i → ((B : List ℕ) → 36 + 4 * i + 4 ≤ length B → get_or (link_put P i B) k 0 ≡ v) → get_or (links_put P A) k 0 ≡ v
   unfolding links_put link_put
   link_at i k v h g here =
       let put : (j : ℕ) (B : List ℕ) → Within (36 + 4 * j) (36 + 4 * j + 4) B (link_put P j B) = λ j. four_within (36 + 4 * j) (P.activation j) (P.finish j) (P.least j) (P.most j) in
-      steps_at (link_put P) P.links i k v A h (λ B e. here B (omega (arith, few.links_in_lem))) (λ j l B. (put j B).below k (omega arith)) (λ B j. (put j B).as_long)
+      steps_at (link_put P) P.links i k v A h (λ B e. here B (omega (arith, few.links_in))) (λ j l B. (put j B).below k (omega arith)) (λ B j. (put j B).as_long)
 
   links_read : ((j : ℕ) → j < P.propositions → get_or A (32 + j) 0 ≡ P.observer j) → LinksRead P (links_put P A)
   unfolding link_put
@@ -185,10 +185,10 @@ module _ (P : Plan) (few : Bounded P) (i : ℕ) (real : i < P.edges) (start : P.
   others_kept : LinksRead P linked
   others_kept = let r = rest.others in record {
     observer_is = λ j h. kept_before (32 + j) (omega arith) (omega (arith, few.propositions_in)) ∙ r.observer_is j h;
-    activation_is = λ j h. kept_before (36 + 4 * j) (omega arith) (omega (arith, few.links_in_lem)) ∙ r.activation_is j h;
-    finish_is = λ j h. kept_before (37 + 4 * j) (omega arith) (omega (arith, few.links_in_lem)) ∙ r.finish_is j h;
-    least_is = λ j h. kept_before (38 + 4 * j) (omega arith) (omega (arith, few.links_in_lem)) ∙ r.least_is j h;
-    most_is = λ j h. kept_before (39 + 4 * j) (omega arith) (omega (arith, few.links_in_lem)) ∙ r.most_is j h;
+    activation_is = λ j h. kept_before (36 + 4 * j) (omega arith) (omega (arith, few.links_in)) ∙ r.activation_is j h;
+    finish_is = λ j h. kept_before (37 + 4 * j) (omega arith) (omega (arith, few.links_in)) ∙ r.finish_is j h;
+    least_is = λ j h. kept_before (38 + 4 * j) (omega arith) (omega (arith, few.links_in)) ∙ r.least_is j h;
+    most_is = λ j h. kept_before (39 + 4 * j) (omega arith) (omega (arith, few.links_in)) ∙ r.most_is j h;
   }
 
   -- a number of each edge: put for edge i, there before for the later ones

@@ -1,6 +1,5 @@
 -- The loop's invariant: the first table holds the table of the rounds made, and the count is the last line and theirs.
 use mathlib.Core.Path.{refl, ◌∙◌}
-use Prim.Native.Nat.{◌-◌}
 use native.Mathlib.Omega.{arith}
 use Rattle.plan.specs.Layout.{plan_of}
 use Rattle.listing_write.proofs.ExactTables.{exact_on}

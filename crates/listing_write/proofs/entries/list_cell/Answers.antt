@@ -11,7 +11,7 @@ pub bounds-first-c : goal.bounds-first-c
 bounds-first-c c = omega (arith, c.requires.inside, c.requires.made.exact.first_length)
 
 pub returns-then-second-c : goal.returns-then-second-c
-returns-then-second-c c = 
+returns-then-second-c c =
     let r = cell_passed (plan_of c.args.plan.now) c.args.first.now c.args.second.now c.args.i c.args.c c.args.out.now c.if-second-c.true in
     record { value = r.0; appends = r.1 }
 
@@ -22,6 +22,6 @@ pub shape_of-out : goal.shape_of-out
 shape_of-out c = c.list_raised.ensures.as_long
 
 pub returns : goal.returns
-returns c = 
+returns c =
     let r = cell_listed (plan_of c.args.plan.now) c.args.first.now c.args.second.now c.args.i c.args.c c.args.out.now _ (omega (arith, c.if-second-c.false)) c.list_raised.ensures in
     record { value = r.0; appends = r.1 }

@@ -1,6 +1,5 @@
 -- The loop's invariant: the lines of the raised cells passed are written.
 use mathlib.Core.Path.{◌≡◌}
-use Prim.Native.Nat.{◌-◌}
 use native.Mathlib.Omega.{arith}
 use Rattle.plan.specs.Plan.{cells}
 use Rattle.plan.specs.Layout.{plan_of}

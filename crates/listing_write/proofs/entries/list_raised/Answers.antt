@@ -17,4 +17,4 @@ pub returns : goal.returns
 returns c = let f = c.frame_of-frame in
     let l = c.line_at-line in
     let g = c.find_ground-found in
-    raised_listed c.args.plan.now c.args.marks.now c.args.horizon c.args.first.now c.args.second.now c.args.index.now c.args.out.now c.args.m c.args.i c.args.c c.requires.0.made c.requires.0.room c.requires.0.inside c.requires.1 l.result g.result _ (l.ensures.is_line_lem _ f.ensures) g.ensures c.put_found.ensures.put_by
+    raised_listed c.args.plan.now c.args.marks.now c.args.horizon c.args.first.now c.args.second.now c.args.index.now c.args.out.now c.args.m c.args.i c.args.c c.requires.0.made c.requires.0.room c.requires.0.inside c.requires.1 l.result g.result _ (l.ensures.is_line _ f.ensures) g.ensures c.put_found.ensures.put_by

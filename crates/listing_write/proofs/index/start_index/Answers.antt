@@ -1,6 +1,5 @@
 -- The loop's invariant: the cells passed have their starting numbers.
 use mathlib.Core.Path.{refl, ◌∙◌}
-use Prim.Native.Nat.{◌-◌}
 use native.Mathlib.Omega.{arith}
 use Rattle.plan.specs.Layout.{plan_of}
 use Rattle.plan.proofs.Ranges.{accepted_bounded, sizes_few}

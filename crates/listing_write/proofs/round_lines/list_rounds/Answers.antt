@@ -1,6 +1,6 @@
 -- The loop's invariant: the rounds made are listed.
 use mathlib.Core.Path.{◌≡◌, subst}
-use Prim.Native.Nat.{ℕ, ◌-◌}
+use Prim.Native.Nat.{ℕ}
 use native.Mathlib.Omega.{arith}
 use Rattle.plan.specs.Layout.{plan_of}
 use Rattle.listing_write.specs.RoundLines.{RoundsListed}

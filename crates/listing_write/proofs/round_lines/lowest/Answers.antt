@@ -1,5 +1,4 @@
 -- The loop's invariant: the cells passed were not raised.
-use Prim.Native.Nat.{◌-◌}
 use native.Mathlib.Omega.{arith}
 use Rattle.listing_write.proofs.RoundLaws.{lowest_start, lowest_here, lowest_on, lowest_none}
 use Rattle.listing_write.proofs.round_lines.lowest.Goals as goal

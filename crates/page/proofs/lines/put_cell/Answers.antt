@@ -9,11 +9,11 @@ returns-then-table-c-eq0 c = let s = c.args in
 
 pub put_line-requires : goal.put_line-requires
 put_line-requires c = let l = c.line_at in
-    let e = l.ensures.is_line_lem (plan_of c.args.plan.now) c.frame_of.ensures in
+    let e = l.ensures.is_line (plan_of c.args.plan.now) c.frame_of.ensures in
     line_asked c.args.plan.now c.args.table.now c.args.c l.result e c.if-table-c-eq0.false c.requires.printable.0 c.requires.printable.1 c.requires.text_fits
 
 pub returns : goal.returns
 returns c = let s = c.args in
     let l = c.line_at in
-    let e = l.ensures.is_line_lem (plan_of s.plan.now) c.frame_of.ensures in
+    let e = l.ensures.is_line (plan_of s.plan.now) c.frame_of.ensures in
     line_put s.plan.now s.table.now s.c l.result e c.if-table-c-eq0.false c.put_line.ensures

@@ -1,5 +1,4 @@
 -- `plan::bounds::greatest_most` meets its contract: the loop's invariant is that `most` is the largest of the rows passed.
-use Prim.Native.Nat.{◌-◌}
 use native.Mathlib.Omega.{arith}
 use Rattle.plan.specs.Layout.{plan_of}
 use Rattle.plan.proofs.Greatest.{highest_none, highest_more, highest_all}

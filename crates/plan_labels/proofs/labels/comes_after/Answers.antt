@@ -1,5 +1,4 @@
 -- `plan_labels::labels::comes_after` meets its contract: the loop's invariant is that the point comes after the observing points passed that its label names.
-use Prim.Native.Nat.{◌-◌}
 use native.Mathlib.Omega.{arith}
 use Rattle.plan.specs.Refusal.{comes_after}
 use Rattle.plan.proofs.Tests.{passed_none, passed_more, passed_all, passed_not}

@@ -1,5 +1,4 @@
 -- `plan_labels::labels::contains_label` meets its contract: the loop's invariant is that a has the digits passed of b.
-use Prim.Native.Nat.{◌-◌}
 use native.Mathlib.Omega.{arith}
 use Rattle.plan.specs.Refusal.{contains_label}
 use Rattle.plan.proofs.Tests.{passed_none, passed_more, passed_all, passed_not}

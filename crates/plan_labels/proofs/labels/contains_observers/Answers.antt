@@ -1,5 +1,4 @@
 -- `plan_labels::labels::contains_observers` meets its contract: the loop's invariant is that the label contains those of the observing points passed that it names.
-use Prim.Native.Nat.{◌-◌}
 use native.Mathlib.Omega.{arith}
 use Rattle.plan.specs.Refusal.{contains_observers}
 use Rattle.plan.proofs.Tests.{passed_none, passed_more, passed_all, passed_not}

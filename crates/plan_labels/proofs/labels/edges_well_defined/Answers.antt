@@ -1,5 +1,4 @@
 -- `plan_labels::labels::edges_well_defined` meets its contract: the loop's invariant is that the edges passed are well-defined.
-use Prim.Native.Nat.{◌-◌}
 use native.Mathlib.Omega.{arith}
 use Rattle.plan.proofs.Tests.{passed_none, passed_more, passed_all, passed_not}
 use Rattle.plan_labels.proofs.labels.edges_well_defined.Goals as goal

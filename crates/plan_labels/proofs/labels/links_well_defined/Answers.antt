@@ -1,5 +1,4 @@
 -- `plan_labels::labels::links_well_defined` meets its contract: the loop's invariant is that the links passed have equal labels at both ends.
-use Prim.Native.Nat.{◌-◌}
 use native.Mathlib.Omega.{arith}
 use Rattle.plan.proofs.Tests.{passed_none, passed_more, passed_all, passed_not}
 use Rattle.plan_labels.proofs.labels.links_well_defined.Goals as goal

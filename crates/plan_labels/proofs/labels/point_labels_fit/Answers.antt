@@ -1,6 +1,5 @@
 -- `plan_labels::labels::point_labels_fit` meets its contract: the loop's invariant is that the labels of the points passed fit.
 use mathlib.Core.Path.{sym}
-use Prim.Native.Nat.{◌-◌}
 use native.Mathlib.Omega.{arith}
 use Rattle.plan.specs.Layout.{plan_of}
 use Rattle.plan.proofs.Truth.{is_true}

@@ -1,5 +1,4 @@
 -- `plan_labels::labels::some_puts_after` meets its contract: the loop's invariant is that no edge passed puts the point after.
-use Prim.Native.Nat.{◌-◌}
 use native.Mathlib.Omega.{arith}
 use Rattle.plan.proofs.Tests.{missed_none, missed_more, missed_all, missed_not}
 use Rattle.plan_labels.proofs.labels.some_puts_after.Goals as goal

@@ -24,13 +24,13 @@ by_rule_lem P by r l m x e h = rw e h
 
 module _ (bs : List ℕ) (by : Rule) (accepted : Accepted bs) (row : InPlan (plan_of bs) by) where
   lower_row : (i : ℕ) → by ≡ LowerCase i → i < 4
-  lower_row i q = omega (arith, (accepted_bounded bs accepted).links_in_lem, subst (InPlan (plan_of bs)) q row)
+  lower_row i q = omega (arith, (accepted_bounded bs accepted).links_in, subst (InPlan (plan_of bs)) q row)
 
   upper_row : (i : ℕ) → by ≡ UpperCase i → i < 4
-  upper_row i q = omega (arith, (accepted_bounded bs accepted).links_in_lem, subst (InPlan (plan_of bs)) q row)
+  upper_row i q = omega (arith, (accepted_bounded bs accepted).links_in, subst (InPlan (plan_of bs)) q row)
 
   letter_row : (i : ℕ) → by ≡ LetterRemoval i → i < 4
-  letter_row i q = omega (arith, (accepted_bounded bs accepted).links_in_lem, subst (InPlan (plan_of bs)) q row)
+  letter_row i q = omega (arith, (accepted_bounded bs accepted).links_in, subst (InPlan (plan_of bs)) q row)
 
   own_row : (j : ℕ) → by ≡ OwnLiteral j → j < 4
   own_row j q = omega (arith, (accepted_bounded bs accepted).propositions_in, subst (InPlan (plan_of bs)) q row)

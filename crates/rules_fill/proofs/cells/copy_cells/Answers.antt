@@ -1,6 +1,6 @@
 -- The loop's invariant: the cells passed are laid over the target.
 use mathlib.Core.Path.{◌≡◌, refl, ap, ◌∙◌}
-use Prim.Native.Nat.{ℕ, ◌-◌}
+use Prim.Native.Nat.{ℕ}
 use native.Mathlib.Omega.{arith}
 use lib.ListN.{get_or, set, length-set}
 use mathlib.Core.List.{List}

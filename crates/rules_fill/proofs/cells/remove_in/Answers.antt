@@ -1,6 +1,5 @@
 -- The loop's invariant: the steps of the cells passed are made.
 use mathlib.Core.Path.{refl, ◌∙◌}
-use Prim.Native.Nat.{◌-◌}
 use native.Mathlib.Omega.{arith}
 use Rattle.rules_fill.specs.Shapes.{remove_in}
 use Rattle.rules_fill.proofs.StepLaws.{steps_none}

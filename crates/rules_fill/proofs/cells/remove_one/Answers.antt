@@ -1,6 +1,5 @@
 -- The loop's invariant: a block starts at the cell reached, and the steps of the cells before it are made.
 use mathlib.Core.Path.{refl, ◌∙◌}
-use Prim.Native.Nat.{◌-◌}
 use native.Mathlib.Nat.{zero-mod, add-mod_right}
 use native.Mathlib.Omega.{arith}
 use Rattle.rules_fill.specs.Shapes.{remove_one}

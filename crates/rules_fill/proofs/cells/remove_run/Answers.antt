@@ -1,6 +1,5 @@
 -- The loop's invariant: the steps from lo to the cell reached are made.
 use mathlib.Core.Path.{refl, ◌∙◌}
-use Prim.Native.Nat.{◌-◌}
 use native.Mathlib.Omega.{arith}
 use Rattle.rules_fill.specs.Shapes.{remove_step}
 use Rattle.rules_fill.proofs.StepLaws.{steps_none}

@@ -1,6 +1,5 @@
 -- The loop's invariant: the steps of the points passed are made, and those begin at 1.
 use mathlib.Core.Path.{refl, ◌∙◌}
-use Prim.Native.Nat.{◌-◌}
 use native.Mathlib.Omega.{arith}
 use Rattle.plan.proofs.Ranges.{accepted_well_formed}
 use Rattle.rules_fill.specs.Shapes.{fill_horizon}

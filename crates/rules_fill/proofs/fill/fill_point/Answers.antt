@@ -22,7 +22,7 @@ inside c =
     row_in (plan_of c.args.plan.now) c.args.x _ _ _ c.requires.point_in c.requires.lent.long_first c.width-width.ensures.0 refl
 
 pub width-width-requires : goal.width-width-requires
-width-width-requires c = let d = accepted_bounded c.args.plan.now c.requires.lent.accepted in (d.links_in_lem, d.propositions_in)
+width-width-requires c = let d = accepted_bounded c.args.plan.now c.requires.lent.accepted in (d.links_in, d.propositions_in)
 
 pub overflow_mul-start : goal.overflow_mul-start
 overflow_mul-start c = omega (arith, inside c)
@@ -39,7 +39,7 @@ slice_bounds-copy_cells-start c = omega (arith, inside c)
 pub copy_cells-requires : goal.copy_cells-requires
 copy_cells-requires c =
     let here : c.args.x * c.width-width.result + c.width-width.result ≤ length c.args.first.now =
-        row_in (plan_of c.args.plan.now) c.args.x _ _ _ c.requires.point_in c.requires.lent.long_first c.width-width.ensures.0 refl in
+    row_in (plan_of c.args.plan.now) c.args.x _ _ _ c.requires.point_in c.requires.lent.long_first c.width-width.ensures.0 refl in
     (simp (lent_part, length-drop) (omega (arith, here)), rw c.width-width.ensures.0 c.requires.lent.long_part)
 
 pub fill_edges-requires : goal.fill_edges-requires

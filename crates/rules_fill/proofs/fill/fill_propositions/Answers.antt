@@ -1,6 +1,5 @@
 -- The loop's invariant: the steps of the propositions passed are made.
 use mathlib.Core.Path.{refl, ◌∙◌}
-use Prim.Native.Nat.{◌-◌}
 use native.Mathlib.Omega.{arith}
 use Rattle.rules_fill.specs.Shapes.{fill_propositions}
 use Rattle.rules_fill.proofs.StepLaws.{steps_none}

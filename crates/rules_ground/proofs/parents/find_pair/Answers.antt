@@ -18,7 +18,7 @@ gives_with-requires c = (record { searched = c.requires.at_first.searched; row =
 
 pub returns-then-gives_with : goal.returns-then-gives_with
 returns-then-gives_with c = let holds = holding _ _ _ _ (c.holds_line.ensures _ c.requires.at_first.searched.width_is) c.if-not-holds_line.false in
-    answer (pair_grounds _ _ _ _ _ _ _ _ c.requires.at_first.row c.requires.at_first.inside holds c.requires.second_in (c.line_at-first.ensures.is_line_lem _ c.requires.at_first.searched.framed) c.gives_with.ensures c.if-gives_with.true)
+    answer (pair_grounds _ _ _ _ _ _ _ _ c.requires.at_first.row c.requires.at_first.inside holds c.requires.second_in (c.line_at-first.ensures.is_line _ c.requires.at_first.searched.framed) c.gives_with.ensures c.if-gives_with.true)
 
 pub returns : goal.returns
-returns c = no_answer (pair_fails _ _ _ _ _ _ _ _ (c.line_at-first.ensures.is_line_lem _ c.requires.at_first.searched.framed) c.gives_with.ensures c.if-gives_with.false)
+returns c = no_answer (pair_fails _ _ _ _ _ _ _ _ (c.line_at-first.ensures.is_line _ c.requires.at_first.searched.framed) c.gives_with.ensures c.if-gives_with.false)

@@ -16,4 +16,4 @@ pub gives_line-requires : goal.gives_line-requires
 gives_line-requires c = record { accepted = c.requires.0.searched.accepted; marked = c.requires.0.searched.marked; horizon_is = c.requires.0.searched.horizon_is; row = c.requires.0.row; first_in = c.requires.1; second_in = in_labels _ _ _ _ c.requires.0.searched _ _ c.requires.0.inside c.line_at.ensures }
 
 pub returns : goal.returns
-returns c = pair_tested _ _ _ _ _ _ _ _ _ (c.holds_line.ensures _ c.requires.0.searched.width_is) c.if-not-holds_line.false (c.line_at.ensures.is_line_lem _ c.requires.0.searched.framed) c.gives_line.ensures
+returns c = pair_tested _ _ _ _ _ _ _ _ _ (c.holds_line.ensures _ c.requires.0.searched.width_is) c.if-not-holds_line.false (c.line_at.ensures.is_line _ c.requires.0.searched.framed) c.gives_line.ensures

@@ -11,7 +11,7 @@ pub loop-i-init : goal.loop-i-init
 loop-i-init c = (omega arith, steps_none _ _, refl)
 
 pub read_link-requires : goal.read_link-requires
-read_link-requires c = omega (arith, (accepted_bounded _ c.requires.0).links_in_lem)
+read_link-requires c = omega (arith, (accepted_bounded _ c.requires.0).links_in)
 
 pub overflow_step-i : goal.overflow_step-i
 overflow_step-i c = omega arith
