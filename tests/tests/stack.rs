@@ -120,7 +120,7 @@ fn each_call_takes_less_than_the_header_says() {
             println!("{call}, memset bound {binding}: at most {most} bytes of stack, {} plans", files.len());
             for ((code, used), file) in measured.iter().zip(files) {
                 // A call takes some; none seen would be a fault of the measurement.
-                assert!(*used > 64, "{call}, code {code}: only {used} bytes, {}", file.display());
+                assert!(*used > 80, "{call}, code {code}: only {used} bytes, {}", file.display());
                 assert!(*used < SULGRACH_STACK, "{call}, code {code}: {used} bytes, {}", file.display());
             }
             let expected = match call {

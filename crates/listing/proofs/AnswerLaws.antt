@@ -55,14 +55,14 @@ module _ (plan F G : List ℕ) (r e : ℕ) (k : BrokenTables plan F G r) (ee : e
 
   -- the 16-bit table and the output
   pub listing_left : (b : ℕ) (I out X O : List ℕ) → cells (plan_of plan) ≤ length I → b ≡ listing_length (plan_of plan) r → b ≤ length out → X ≡ index_table (plan_of plan) (listing_lines (plan_of plan) r) → Listing plan O r → length O ≡ length (take b out) → ListingLeft plan r I out (X ++ drop e I) (O ++ drop b out)
-  listing_left b I out X O h is-length room ex l eo = record {
+  listing_left b I out X O h is_length room ex l eo = record {
     index_is = ap₂ (λ (x : List ℕ) (n : ℕ). x ++ drop n I) ex ee;
-    handed = record { listing = subst (λ (x : List ℕ). Listing plan x r) (sym (take_at O (drop b out) (listing_length (plan_of plan) r) bytes)) l; past = drop_at O (drop b out) (listing_length (plan_of plan) r) bytes ∙ ap (λ (n : ℕ). drop n out) is-length; as_long = length-append O (drop b out) ∙ omega (arith, bytes, is-length, length-drop b out) };
+    handed = record { listing = subst (λ (x : List ℕ). Listing plan x r) (sym (take_at O (drop b out) (listing_length (plan_of plan) r) bytes)) l; past = drop_at O (drop b out) (listing_length (plan_of plan) r) bytes ∙ ap (λ (n : ℕ). drop n out) is_length; as_long = length-append O (drop b out) ∙ omega (arith, bytes, is_length, length-drop b out) };
     index_length = length-append X (drop e I) ∙ omega (arith, ap length ex, index_length (plan_of plan) (listing_lines (plan_of plan) r), length-drop e I);
   }
     where
       bytes : length O ≡ listing_length (plan_of plan) r
-      bytes = eo ∙ sym (cut_length b out room) ∙ is-length
+      bytes = eo ∙ sym (cut_length b out room) ∙ is_length
 
 pub listing_bytes : (P : Plan) (r m : ℕ) → m ≡ length (listing_lines P r) → 2 + 14 * m ≡ listing_length P r
 unfolding listing_length

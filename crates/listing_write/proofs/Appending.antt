@@ -57,9 +57,9 @@ module _ (P : Plan) where
 
     derive_kept : SameFields bs cs i → LineDerives P bs i → LineDerives P cs i
     derive_kept s d =
-        let below-second = below_either (uses_second d.rule) (second_parent bs i) (P.points + i) (omega arith) d.second_known d.second_unused in
+        let below_second = below_either (uses_second d.rule) (second_parent bs i) (P.points + i) (omega arith) d.second_known d.second_unused in
         let first_line_lem : parent_line P cs (first_parent cs i) ≡ parent_line P bs (first_parent bs i) = ap (parent_line P cs) s.same_first ∙ parent_kept (first_parent bs i) d.first_known in
-        let second_line : parent_line P cs (second_parent cs i) ≡ parent_line P bs (second_parent bs i) = ap (parent_line P cs) s.same_second ∙ parent_kept (second_parent bs i) below-second in
+        let second_line : parent_line P cs (second_parent cs i) ≡ parent_line P bs (second_parent bs i) = ap (parent_line P cs) s.same_second ∙ parent_kept (second_parent bs i) below_second in
         record {
           point_in = rw s.same_line d.point_in;
           set_in = rw s.same_line d.set_in;

@@ -34,16 +34,16 @@ module _ (bs : List ℕ) (a : Accepted bs) where
   edge_numbered e q v c h k = let z : v ≡ edge_number (plan_of bs) e = rw c k in (z, rw z (edge_fits_lem e h))
 
   -- with the code's numbers m and n for the plan's edges and points
-  module _ (e : Edge) (row : InPlan (plan_of bs) (Propagation e)) (i m : ℕ) (edges-is : m ≡ (plan_of bs).edges) where
+  module _ (e : Edge) (row : InPlan (plan_of bs) (Propagation e)) (i m : ℕ) (edges_is : m ≡ (plan_of bs).edges) where
     pub horizon_number : e ≡ HorizonEdge i → (m + i ≡ edge_number (plan_of bs) e) × (m + i < 65536)
-    horizon_number q = edge_numbered e (HorizonEdge i) (m + i) q row (rw edges-is)
+    horizon_number q = edge_numbered e (HorizonEdge i) (m + i) q row (rw edges_is)
 
-    module _ (n : ℕ) (points-is : n ≡ (plan_of bs).points) where
+    module _ (n : ℕ) (points_is : n ≡ (plan_of bs).points) where
       pub upper_number : e ≡ UpperBound i → (m + n + 2 * i ≡ edge_number (plan_of bs) e) × (m + n + 2 * i < 65536)
-      upper_number q = edge_numbered e (UpperBound i) (m + n + 2 * i) q row (rw (edges-is, points-is))
+      upper_number q = edge_numbered e (UpperBound i) (m + n + 2 * i) q row (rw (edges_is, points_is))
 
       pub lower_number : e ≡ LowerBound i → (m + n + 2 * i + 1 ≡ edge_number (plan_of bs) e) × (m + n + 2 * i + 1 < 65536)
-      lower_number q = edge_numbered e (LowerBound i) (m + n + 2 * i + 1) q row (rw (edges-is, points-is))
+      lower_number q = edge_numbered e (LowerBound i) (m + n + 2 * i + 1) q row (rw (edges_is, points_is))
 
   pub row_numbered : (r q : Rule) (v : ℕ) → r ≡ q → InPlan (plan_of bs) r → v ≡ row_number (plan_of bs) q → (v ≡ row_number (plan_of bs) r) × (v < 65536)
   row_numbered r q v c h k = let z : v ≡ row_number (plan_of bs) r = rw c k in (z, rw z (row_fits r h))

@@ -165,13 +165,13 @@ module _ (bs : List ℕ) (first second marks : Moments) where
     run_broken h limit F G o own e ran b r left =
         let w = whole_ran h limit (record { entry = first.entry; exit = F }) (record { entry = second.entry; exit = G }) o own e ran in
         let sized = run_length P (accepted_well_formed bs lent.accepted) (zeros P) (length-replicate (cells P) 0) (enough_rounds P) in
-        let tail-first = ap (drop (cells P)) w.first_is ∙ drop_at (run_table P (zeros P) (enough_rounds P)) (drop (cells P) first.entry) (cells P) sized in
-        let tail-second = ap (drop (cells P)) w.second_is ∙ drop_at (run_table P (zeros P) (enough_rounds P)) (drop (cells P) second.entry) (cells P) sized in
+        let tail_first = ap (drop (cells P)) w.first_is ∙ drop_at (run_table P (zeros P) (enough_rounds P)) (drop (cells P) first.entry) (cells P) sized in
+        let tail_second = ap (drop (cells P)) w.second_is ∙ drop_at (run_table P (zeros P) (enough_rounds P)) (drop (cells P) second.entry) (cells P) sized in
         rows_marked (ap is_broken (sym w.outcome_is) ∙ b) r (record {
           rows_are = left.rows_are;
           marks_are = left.marks_are;
-          first_is = left.first_is ∙ ap (λ (l : List ℕ). trial_table P (breaking_marks P) ++ l) tail-first;
-          second_is = left.second_is ∙ ap (λ (l : List ℕ). trial_table P (breaking_marks P) ++ l) tail-second;
+          first_is = left.first_is ∙ ap (λ (l : List ℕ). trial_table P (breaking_marks P) ++ l) tail_first;
+          second_is = left.second_is ∙ ap (λ (l : List ℕ). trial_table P (breaking_marks P) ++ l) tail_second;
           first_length = left.first_length ∙ w.first_length;
           second_length = left.second_length ∙ w.second_length;
           marks_length = left.marks_length;

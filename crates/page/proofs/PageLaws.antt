@@ -73,9 +73,9 @@ module _ {T : List ℕ} {n : ℕ} where
   counted_few {lines} {c} k = omega (arith, k.lines_are, count_few (above T) c)
 
 -- ---- the text of a cell above 0, whose line is l
-module _ (plan table : List ℕ) (c : ℕ) (l : Line) (is_line_lem : l ≡ line_at (plan_of plan) table c) (not-zero : get_or table c 0 ≡ 0 → ⊥) where
+module _ (plan table : List ℕ) (c : ℕ) (l : Line) (is_line_lem : l ≡ line_at (plan_of plan) table c) (not_zero : get_or table c 0 ≡ 0 → ⊥) where
   text_is : cell_text (plan_of plan) table c ≡ columns l
-  text_is = text_yes table c (plan_of plan) (above_yes table c not-zero) ∙ ap columns (sym is_line_lem)
+  text_is = text_yes table c (plan_of plan) (above_yes table c not_zero) ∙ ap columns (sym is_line_lem)
 
   pub line_asked : {at : ℕ} → Printable plan table → c < cells (plan_of plan) → TextFits at (cell_text (plan_of plan) table c) → LineFits l × TextFits at (columns l)
   line_asked p h r = (rw is_line_lem (line_fits plan table p c h), rw (← text_is) r)

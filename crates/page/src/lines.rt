@@ -4,7 +4,7 @@ ghost use Rattle.plan.specs.Plan.{cells as cells_of};
 ghost use Rattle.plan.specs.Layout.{plan_of};
 ghost use Rattle.text.specs.Decimal.{decimal};
 ghost use Rattle.text.specs.Buffer.{TextFits, TextPut};
-ghost use Rattle.page.specs.Columns.{right_aligned, columns as columnsOf};
+ghost use Rattle.page.specs.Columns.{right_aligned, columns as columns_of};
 ghost use Rattle.page.specs.Page.{cell_text, page_of};
 ghost use Rattle.page.specs.Lent.{LineFits, Printable};
 
@@ -34,8 +34,8 @@ fn put_right_aligned(out: &mut [u8], at: usize, width: usize, n: usize) -> usize
 }
 
 fn put_line(out: &mut [u8], at: usize, line: Line) -> usize
-    requires { LineFits line × TextFits at (columnsOf line) }
-    ensures { TextPut (columnsOf line) at out.old result out.new }
+    requires { LineFits line × TextFits at (columns_of line) }
+    ensures { TextPut (columns_of line) at out.old result out.new }
 {
     let middle = put_right_aligned(out, at, 2, line.point);
     let wait = put_bytes(out, middle, &middle_columns(line.set, line.label));

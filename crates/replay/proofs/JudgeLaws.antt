@@ -138,7 +138,7 @@ rule_one P rule row o q e = rw q e
 pub rule_past : (P : Plan) (rule row : ℕ) → 6 < rule → none ≡ rule_of P rule row
 rule_past P rule row h = let q : rule ≡ suc (suc (suc (suc (suc (suc (suc (rule - 7))))))) = omega arith in rw q
 
-pub ruleset rules-named = (plan_edge_named, row_e, horizon_edge_named, bound_row, no_bound, upper_bound_named, lower_bound_named, link_none, lower_named, upper_named, letter_named, proposition_none, own_named, literal_named, rule_one, rule_past)
+pub ruleset rules_named = (plan_edge_named, row_e, horizon_edge_named, bound_row, no_bound, upper_bound_named, lower_bound_named, link_none, lower_named, upper_named, letter_named, proposition_none, own_named, literal_named, rule_one, rule_past)
 
 -- ---- parents
 pub starting_parent : (P : Plan) (bs : List ℕ) (q n : ℕ) → n ≡ P.points → q < n → starting_line q ≡ parent_line P bs q
@@ -233,10 +233,10 @@ module _ (P : Plan) (bs : List ℕ) (i : ℕ) (x : Ruled) (rule row : ℕ) (is :
   pub rule_in_plan : (by : Rule) → x ≡ By by → InPlan P by
   rule_in_plan by e = in_plan P rule row by (sym is ∙ ap rule_option e)
 
-  module _ (l : Line) (r : Bool) (line_is : l ≡ head_line bs i) (range-is : r ≡ in_range P l) (in_range_lem : not r ≡ false) (rule_is : rule ≡ head_rule bs i) (row_is : row ≡ row_of bs i) where
+  module _ (l : Line) (r : Bool) (line_is : l ≡ head_line bs i) (range_is : r ≡ in_range P l) (in_range_lem : not r ≡ false) (rule_is : rule ≡ head_rule bs i) (row_is : row ≡ row_of bs i) where
     judged_by : judge_line P bs i ≡ judge_rule P bs i (rule_option x)
     unfolding judge_line
-    judged_by = rw (← line_is, ← range-is, in_range_lem, ← rule_is, ← row_is, ← is)
+    judged_by = rw (← line_is, ← range_is, in_range_lem, ← rule_is, ← row_is, ← is)
 
     pub by_rule_lem : (by : Rule) (v : ℕ) → x ≡ By by → v ≡ judge_rule P bs i (some by) → v ≡ judge_line P bs i
     by_rule_lem by v e f = f ∙ sym (judged_by ∙ ap (λ (y : Ruled). judge_rule P bs i (rule_option y)) e)

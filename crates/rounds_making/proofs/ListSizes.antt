@@ -69,12 +69,12 @@ zeros_at m c = go (dec_lt c m)
     go (no h) = get_or-eq_default (entries m 0) 0 {n = c} (rw (entries_length m 0) (omega arith))
 
 -- ---- lists of m places, which is 2 k, with k notes and 64 counts, for a plan of at most k cells
-module _ (bs M : List ℕ) (h : ℕ) (F G : List ℕ) (z : Bool) (lent : RunLent bs M h F G z) (k m : ℕ) (few-cells : cells (plan_of bs) ≤ k) (double : m ≡ 2 * k) where
+module _ (bs M : List ℕ) (h : ℕ) (F G : List ℕ) (z : Bool) (lent : RunLent bs M h F G z) (k m : ℕ) (few_cells : cells (plan_of bs) ≤ k) (double : m ≡ 2 * k) where
   cells_none : z ≡ true → (c : ℕ) → c < cells (plan_of bs) → get_or F c 0 ≡ 0
   cells_none e c l = sym (get_or-take (cells (plan_of bs)) F c 0 l) ∙ ap (λ (t : List ℕ). get_or t c 0) (lent.zeros_are e) ∙ get_or-replicate (cells (plan_of bs)) c 0 0 l
 
   few_places : (2 * (plan_of bs).points) * width (plan_of bs) ≤ m
-  few_places = omega (arith, mul_assoc 2 (plan_of bs).points (width (plan_of bs)), few-cells)
+  few_places = omega (arith, mul_assoc 2 (plan_of bs).points (width (plan_of bs)), few_cells)
 
   pub first_room : Accepted bs × FirstLent bs F (entries m 0) (entries 64 1) z
   first_room = (
@@ -98,4 +98,4 @@ module _ (bs M : List ℕ) (h : ℕ) (F G : List ℕ) (z : Bool) (lent : RunLent
       truth false e = sym e
 
       listed : ListsLent bs h F L C (entries k 0) lined (not z)
-      listed = first_lent bs M h F G lent.ready L C lined first (omega (arith, lc, entries_length 64 1, (accepted_bounded bs lent.ready.accepted).points_in)) (entries k 0) (not z) (rw (ll, entries_length m 0) few_places) (rw (entries_length k 0) few-cells) (λ e. cells_none (truth z e))
+      listed = first_lent bs M h F G lent.ready L C lined first (omega (arith, lc, entries_length 64 1, (accepted_bounded bs lent.ready.accepted).points_in)) (entries k 0) (not z) (rw (ll, entries_length m 0) few_places) (rw (entries_length k 0) few_cells) (λ e. cells_none (truth z e))

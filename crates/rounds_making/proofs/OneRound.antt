@@ -117,14 +117,14 @@ module _ (P : Plan) (wf : WellFormed P) (F G G' : List ℕ) (long : cells P ≤ 
       over_lent few lc = record { few = few; below = f.below; long = long'; counts_long = lc; places = λ y h. (settled.lists_are y h).raised_places }
 
       pub round_known : (lined' : ℕ) (over' : Bool) → 2 * P.points ≤ length C' → LinedIn P.points C' lined' → NoneRaisedAbove P.points (width P) P.horizon G' L' C' changed' over' → Known P (next_cells P F) L' C' changed' lined' over'
-      round_known lined' over' lc with-lines none = record {
+      round_known lined' over' lc with_lines none = record {
         lists_are = record {
           counts_long = lc;
           of_point = λ y h. lists_same P.points (width P) G' (next_cells P F) L' C' second_at y h (settled.lists_are y h);
           covered = covered_next P wf (take (cells P) F) (length-take-le (cells P) F long) L' C' raised;
         };
         changed_in = record { below = f.below; has = f.raised_in };
-        lined_in = with-lines;
+        lined_in = with_lines;
         none_over = record { none = λ e y t h k r. rw (← (second_at (y * width P + t) (cell_in y t h k))) (none.none e y t h (f.raised_in y h (omega (arith, r.below))) r) };
       }
         where

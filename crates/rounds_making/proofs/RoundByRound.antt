@@ -42,13 +42,13 @@ module _ (P : Plan) (wf : WellFormed P) (F G G' : List ℕ) (long : cells P ≤ 
   pub round_made : (F' D' L' C' : List ℕ) (r : Round) (agree : Bool) → AfterSettle P.points (width P) G' F F' D' L' C' r.changed → 2 * P.points ≤ length C' → LinedIn P.points C' r.lined
       → NoneRaisedAbove P.points (width P) P.horizon G' L' C' r.changed r.over → agree ≡ same (take (P.points * width P) F') (take (P.points * width P) G') → r.stops ≡ stops_by last.stops r.changed agree
       → length F' ≡ length F → length G' ≡ length G → RoundMade P (record { entry = F; exit = F' }) (record { entry = G; exit = G' }) L' C' D' r
-  round_made F' D' L' C' r agree settled lc with-lines none agrees stops lf lg = record {
+  round_made F' D' L' C' r agree settled lc with_lines none agrees stops lf lg = record {
     stops_is = stops ∙ stops_is P wf F G G' long made long' L C last.changed last.lined last.over known F' D' L' C' r.changed settled last.stops agree waits agrees;
     first_is = settled.target_is ∙ ap (λ (l : List ℕ). laid_over (cells P) l F) made ∙ laid_on (cells P) (next_cells P F) G (next_length P wf F long) F;
     second_is = made;
     first_length = lf;
     second_length = lg;
-    known = round_known P wf F G G' long made long' L C last.changed last.lined last.over known F' D' L' C' r.changed settled r.lined r.over lc with-lines none;
+    known = round_known P wf F G G' long made long' L C last.changed last.lined last.over known F' D' L' C' r.changed settled r.lined r.over lc with_lines none;
     no_notes = settled.no_notes;
   }
 

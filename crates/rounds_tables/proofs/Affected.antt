@@ -24,7 +24,7 @@ use Rattle.rules.specs.Tables.{next}
 use Rattle.rules.specs.Derivations.{InPlan}
 use Rattle.rules.proofs.Deriving.{Fires, fires_facts}
 use Rattle.rules.proofs.Next.{FromTable, IsNext, next_is}
-use Rattle.rules_fill.specs.Shapes.{is_line as isLineAt}
+use Rattle.rules_fill.specs.Shapes.{is_line as is_line_at}
 use Rattle.rules_fill.specs.Parts.{part}
 use Rattle.rules_fill.specs.Parents.{first_point, second_point}
 use Rattle.rules_fill.proofs.PartLaws.{part_at, part_length}
@@ -47,7 +47,7 @@ no_digit j h = subst Is (ap (λ (c : ℕ). not (eqb (c % 4) 0)) (zero-div (4 ^ j
 
 module _ (P : Plan) (wf : WellFormed P) (A : List ℕ) (sized : length A ≡ cells P) (L counts sets : List ℕ) (changed lined givers set₀ set : ℕ) (over : Bool)
     (known : Known P A L counts changed lined over) (dependents : Dependents P sets) (giving : Givers P givers) (concerned : Concerned P.points sets changed lined givers set₀)
-    (more : (x : ℕ) → In set₀ x → In set x) (first-in-set : over ≡ true → In set 0) where
+    (more : (x : ℕ) → In set₀ x → In set x) (first_in_set : over ≡ true → In set 0) where
   raised_changed : (y t : ℕ) → y < P.points → Raised (width P) L counts y t → In changed y
   raised_changed y t h r = known.changed_in.has y h (omega (arith, r.below))
 
@@ -57,10 +57,10 @@ module _ (P : Plan) (wf : WellFormed P) (A : List ℕ) (sized : length A ≡ cel
   -- a point with a line beside the starting line
   has_lines : (x t : ℕ) → x < P.points → t < width P → 0 < t → Is (is_line P A x t) → In lined x
   has_lines x t h k p i =
-      let line : (u : ℕ) → Is (is_line P A x u) → Is (isLineAt u (wait_at P A x u)) = λ u j. rw (line_same u (wait_at P A x u)) j in
-      known.lined_in.has x h (rw (known.lists_are.of_point x h).line_count (count_two (λ u. isLineAt u (wait_at P A x u)) (width P) t k p (line 0 tt) (line t i)))
+      let line : (u : ℕ) → Is (is_line P A x u) → Is (is_line_at u (wait_at P A x u)) = λ u j. rw (line_same u (wait_at P A x u)) j in
+      known.lined_in.has x h (rw (known.lists_are.of_point x h).line_count (count_two (λ u. is_line_at u (wait_at P A x u)) (width P) t k p (line 0 tt) (line t i)))
 
-  module _ (x : ℕ) (inside : x < P.points) (out : In set x → ⊥) (t u : ℕ) (t_in : t < width P) (u-in : u < width P) where
+  module _ (x : ℕ) (inside : x < P.points) (out : In set x → ⊥) (t u : ℕ) (t_in : t < width P) (u_in : u < width P) where
     above : Dec (t ≡ 0) → (t ≡ 0 → ⊥) → 0 < t
     above (yes e) n = absurd (n e)
     above (no e) n = omega arith
@@ -85,7 +85,7 @@ module _ (P : Plan) (wf : WellFormed P) (A : List ℕ) (sized : length A ≡ cel
     no_first (Propagation (HorizonEdge y)) h l f e r = by_over over refl
       where
         by_over : (b : Bool) → over ≡ b → ⊥
-        by_over true q = out (subst (In set) e (first-in-set q))
+        by_over true q = out (subst (In set) e (first_in_set q))
         by_over false q = absurd (omega (arith, f.3, known.none_over.none q y t h.1 t_in r))
     no_first (Propagation (UpperBound i)) h l f e r = out (depends (P.finish i) x (wf.finish_in i h).1 (raised_changed _ _ (wf.finish_in i h).1 r) (rw (sym e) (dependents.by_finish i h)))
     no_first (Propagation (LowerBound i)) h l f e r = out (depends (P.activation i) x (wf.activation_in i h) (raised_changed _ _ (wf.activation_in i h) r) (rw (sym e) (dependents.by_activation i h)))
@@ -105,7 +105,7 @@ module _ (P : Plan) (wf : WellFormed P) (A : List ℕ) (sized : length A ≡ cel
     no_second (OwnLiteral j) h l f s r = s
 
     pub low : (r : Rule) → InPlan P r → Is (gives P A x r t u) → (given_line P A x r t u).wait ≤ get_or A (x * width P + place P (given_line P A x r t u)) 0
-    low r h g = go (known.lists_are.covered.given x inside r h t u t_in u-in g)
+    low r h g = go (known.lists_are.covered.given x inside r h t u t_in u_in g)
       where
         line : Is (is_line P A (first_point P r x) t)
         line = search (and_l, and_r)

@@ -28,7 +28,7 @@ pub record CopiedTo (w : ℕ) (S T₀ notes L₀ : List ℕ) (base raised lines 
 pub copied_none : (w : ℕ) (S T notes L : List ℕ) (base raised lines lined : ℕ) → LinesAt w T L base lines lined → CopiedTo w S T notes L base raised lines 0 T L lined
 copied_none w S T notes L base raised lines lined h = record { lines_are = h; passed = λ j k. absurd (omega arith); either = λ t k. inr refl; before_same = λ c k. refl; past_same = λ c k. refl; raised_are = λ j k. absurd (omega arith); lists_before = λ c k. refl; lists_past = λ c k. refl; target_long = refl; lists_long = refl }
 
-module _ (w : ℕ) (S T₀ notes L₀ : List ℕ) (base raised lines n : ℕ) (narrow : w ≤ 65536) (source_fits : base + w ≤ length S) (target_fits : base + w ≤ length T₀) (apart : raised + w ≤ lines) (lists-fit : lines + w ≤ length L₀) (noted : NotedAt w S T₀ notes base n) where
+module _ (w : ℕ) (S T₀ notes L₀ : List ℕ) (base raised lines n : ℕ) (narrow : w ≤ 65536) (source_fits : base + w ≤ length S) (target_fits : base + w ≤ length T₀) (apart : raised + w ≤ lines) (lists_fit : lines + w ≤ length L₀) (noted : NotedAt w S T₀ notes base n) where
   module _ (i : ℕ) (T L : List ℕ) (lined : ℕ) (inside : i < n) (sofar : CopiedTo w S T₀ notes L₀ base raised lines i T L lined) (place : ℕ) (place_is : place ≡ get_or notes (base + i) 0) where
     -- the lists with the place among the raised ones
     abbrev M : List ℕ
@@ -82,7 +82,7 @@ module _ (w : ℕ) (S T₀ notes L₀ : List ℕ) (base raised lines n : ℕ) (n
       }
 
 -- ---- all notes of point y
-module _ (w : ℕ) (S T₀ notes L₀ : List ℕ) (n y i : ℕ) (T L : List ℕ) (lined : ℕ) (at-end : i ≡ n) (lists-fit : (2 * y + 1) * w + w ≤ length L₀) (noted : NotedAt w S T₀ notes (y * w) n) (sofar : CopiedTo w S T₀ notes L₀ (y * w) (2 * y * w) ((2 * y + 1) * w) i T L lined) where
+module _ (w : ℕ) (S T₀ notes L₀ : List ℕ) (n y i : ℕ) (T L : List ℕ) (lined : ℕ) (at_end : i ≡ n) (lists_fit : (2 * y + 1) * w + w ≤ length L₀) (noted : NotedAt w S T₀ notes (y * w) n) (sofar : CopiedTo w S T₀ notes L₀ (y * w) (2 * y * w) ((2 * y + 1) * w) i T L lined) where
   listed_all : (t : ℕ) → Listed notes (y * w) n t → Listed L (2 * y * w) n t
   listed_all t l = record { at = l.at; below = l.below; is = sofar.raised_are l.at (omega (arith, l.below)) ∙ l.is }
 

@@ -52,11 +52,11 @@ module _ (P : Plan) (wf : WellFormed P) (A : List ℕ) (sized : length A ≡ cel
     abbrev Out : ℕ → Rule → ℕ → ℕ → Type 0
     Out x r t u = Raised (width P) L counts (first_point P r x) t ⊎ ((Is (uses_second r) × Raised (width P) L counts (second_point P r) u) ⊎ ((given_line P B x r t u).wait ≤ get_or B (x * width P + place P (given_line P B x r t u)) 0))
 
-    module _ (x : ℕ) (inside : x < P.points) (t u : ℕ) (t_in : t < width P) (u-in : u < width P) where
+    module _ (x : ℕ) (inside : x < P.points) (t u : ℕ) (t_in : t < width P) (u_in : u < width P) where
       -- the second parent of a rule that looks at it
       two : (r : Rule) → InPlan P r → Is (uses_second r) → Parent P (Cell P A) (first_of P B x r t) → Is (is_line P B (second_point P r) u) → Is (fires P r (first_of P B x r t) (second_of P B r u)) → (given_line P B x r t u).point ≡ x → Dec (wait_at P B (second_point P r) u ≡ wait_at P A (second_point P r) u) → Out x r t u
-      two r h s p i f e (yes q) = inr (inr (low r h _ _ p (parent (second_point P r) u (second_in P wf A sized x inside r h) u-in q i) f x e))
-      two r h s p i f e (no q) = inr (inl (s, all_raised (second_point P r) u (second_in P wf A sized x inside r h) u-in q))
+      two r h s p i f e (yes q) = inr (inr (low r h _ _ p (parent (second_point P r) u (second_in P wf A sized x inside r h) u_in q i) f x e))
+      two r h s p i f e (no q) = inr (inl (s, all_raised (second_point P r) u (second_in P wf A sized x inside r h) u_in q))
 
       one : (r : Rule) → InPlan P r → Parent P (Cell P A) (first_of P B x r t) → Is (is_line P B (second_point P r) u) → Is (fires P r (first_of P B x r t) (second_of P B r u)) → (given_line P B x r t u).point ≡ x → Out x r t u
       one (Propagation e) h p i f q = inr (inr (low (Propagation e) h (first_of P B x (Propagation e) t) (starting_line 0) p start f x q))
@@ -76,12 +76,12 @@ module _ (P : Plan) (wf : WellFormed P) (A : List ℕ) (sized : length A ≡ cel
           one r h (parent (first_point P r x) t (first_in P wf A sized x inside r h) t_in q a) b f (eqb→eq _ _ e)
 
     pub covered_next : Covered P (next P A) L counts
-    covered_next = record { given = λ x inside r h t u t_in u-in g. given x inside t u t_in u-in r h g (ℕ_discrete _ _) }
+    covered_next = record { given = λ x inside r h t u t_in u_in g. given x inside t u t_in u_in r h g (ℕ_discrete _ _) }
 
 -- ---- before the first round
 pub covered_first : (P : Plan) → WellFormed P → (A L counts : List ℕ) → length A ≡ cells P → AllListed P.points (width P) A L counts → Covered P A L counts
 covered_first P wf A L counts sized lines =
-    record { given = λ x inside r h t u t_in u-in g. inl (lines.lines_raised (first_point P r x) t (first_in P wf A sized x inside r h) t_in (rw (line_same t (wait_at P A (first_point P r x) t)) (line x r t u g))) }
+    record { given = λ x inside r h t u t_in u_in g. inl (lines.lines_raised (first_point P r x) t (first_in P wf A sized x inside r h) t_in (rw (line_same t (wait_at P A (first_point P r x) t)) (line x r t u g))) }
   where
     line : (x : ℕ) (r : Rule) (t u : ℕ) → Is (gives P A x r t u) → Is (is_line P A (first_point P r x) t)
     line x r t u g = search (and_l, and_r)

@@ -50,9 +50,9 @@ count_full f (suc n) h i k = go (f n) refl h (λ l j. count_full f n l i j) (ℕ
 but : (ℕ → Bool) → ℕ → ℕ → Bool
 but f c i = f i && not (eqb i c)
 
-and-false : (b : Bool) → b && false ≡ false
-and-false true = refl
-and-false false = refl
+and_false : (b : Bool) → b && false ≡ false
+and_false true = refl
+and_false false = refl
 
 and_true : (b : Bool) → b && true ≡ b
 and_true true = refl
@@ -60,7 +60,7 @@ and_true false = refl
 
 but_own : (f : ℕ → Bool) (c : ℕ) → but f c c ≡ false
 unfolding but
-but_own f c = rw (eq-eqb c c refl) (and-false (f c))
+but_own f c = rw (eq-eqb c c refl) (and_false (f c))
 
 but_other : (f : ℕ → Bool) (c i : ℕ) → (i ≡ c → ⊥) → but f c i ≡ f i
 unfolding but

@@ -144,8 +144,8 @@ module _ (P : Plan) (F G : List ℕ) (w set₀ : ℕ) where
 
       -- the part of the table, and of the notes, that come back
       module _ (Y Z : List ℕ) (count : ℕ) (ly : length Y ≡ length S - x * w) (lz : length Z ≡ w) (filled : Y ≡ next_part P x (take (cells P) F) (drop (x * w) S))
-          (noted : Noted w (take (cells P) F) (x * w) Y Z count) (next-long : length (next_cells P F) ≡ cells P) (left' : ℕ) (left_is : left' ≡ remove left x)
-          (in-less : (y : ℕ) → In (remove left x) y → In left y) (in_rest : (y : ℕ) → In left y → (y ≡ x → ⊥) → In (remove left x) y) (not_in : In (remove left x) x → ⊥) (less : left' < left) where
+          (noted : Noted w (take (cells P) F) (x * w) Y Z count) (next_long : length (next_cells P F) ≡ cells P) (left' : ℕ) (left_is : left' ≡ remove left x)
+          (in_less : (y : ℕ) → In (remove left x) y → In left y) (in_rest : (y : ℕ) → In left y → (y ≡ x → ⊥) → In (remove left x) y) (not_in : In (remove left x) x → ⊥) (less : left' < left) where
         S' : List ℕ
         S' = put_mid (x * w) (length S - x * w) S Y
 
@@ -174,7 +174,7 @@ module _ (P : Plan) (F G : List ℕ) (w set₀ : ℕ) where
         Y-is = filled ∙ ap (λ (l : List ℕ). part P x (next P l) ++ drop (width P) (drop (x * w) S)) cut_twice
 
         head_long : length (part P x (next_cells P F)) ≡ w
-        head_long = length-take-le (width P) (drop (x * width P) (next_cells P F)) (simp length-drop (omega (arith, row_cells, next-long))) ∙ sym ew
+        head_long = length-take-le (width P) (drop (x * width P) (next_cells P F)) (simp length-drop (omega (arith, row_cells, next_long))) ∙ sym ew
 
         S-point : (t : ℕ) → t < w → get_or S' (x * w + t) 0 ≡ get_or (next_cells P F) (x * w + t) 0
         S-point t h =
@@ -253,9 +253,9 @@ module _ (P : Plan) (F G : List ℕ) (w set₀ : ℕ) where
         pub refilled_more : Refilled left' (put_mid (x * w) (length S - x * w) S Y) (put_mid (x * w) w N Z) (set D x count)
         unfolding S' N'
         refilled_more = record {
-          left_in = λ y h. r.left_in y (in-less y (rw left_is at h));
+          left_in = λ y h. r.left_in y (in_less y (rw left_is at h));
           left_below = omega (arith, r.left_below);
-          waiting = λ y t h k i. other S' S S-before S-past y t (λ e. not_in (subst (In (remove left x)) e (rw left_is at i))) k ∙ r.waiting y t h k (in-less y (rw left_is at i));
+          waiting = λ y t h k i. other S' S S-before S-past y t (λ e. not_in (subst (In (remove left x)) e (rw left_is at i))) k ∙ r.waiting y t h k (in_less y (rw left_is at i));
           done = λ y t h k out. done_for y t h k out (ℕ_discrete y x);
           noted_at = λ y h. noted_for y h (ℕ_discrete y x);
           outside = λ y h out. outside_for y h out (ℕ_discrete y x);
@@ -266,7 +266,7 @@ module _ (P : Plan) (F G : List ℕ) (w set₀ : ℕ) where
         }
 
     -- after the last
-    module _ (S N D : List ℕ) (r : Refilled 0 S N D) (none_in : (y : ℕ) → In 0 y → ⊥) (next-long : length (next_cells P F) ≡ cells P) where
+    module _ (S N D : List ℕ) (r : Refilled 0 S N D) (none_in : (y : ℕ) → In 0 y → ⊥) (next_long : length (next_cells P F) ≡ cells P) where
       positive : 0 < w → (c : ℕ) → c < P.points * w → (c / w < P.points) × (c % w < w) × (c / w * w + c % w ≡ c)
       positive h c k = ((div-lt_iff_lt-mul h).1 k, mod-lt c h, div-add-mod' c w)
 
@@ -280,10 +280,10 @@ module _ (P : Plan) (F G : List ℕ) (w set₀ : ℕ) where
       refilled_all h = ext_get_or 0 S (laid_over (cells P) (next_cells P F) G) lengths (λ c k. at c (dec_le (suc c) (cells P)))
         where
           all_taken : length (take (cells P) (next_cells P F)) ≡ cells P
-          all_taken = length-take-le (cells P) (next_cells P F) (omega (arith, next-long))
+          all_taken = length-take-le (cells P) (next_cells P F) (omega (arith, next_long))
 
           lengths : length S ≡ length (take (cells P) (next_cells P F) ++ drop (cells P) G)
-          lengths = r.as_long ∙ simp (length-append, length-take, length-drop) (omega (arith, all_cells, next-long))
+          lengths = r.as_long ∙ simp (length-append, length-take, length-drop) (omega (arith, all_cells, next_long))
 
           at : (c : ℕ) → Dec (suc c ≤ cells P) → get_or S c 0 ≡ get_or (take (cells P) (next_cells P F) ++ drop (cells P) G) c 0
           at c (yes k) = at_cell h c (omega (arith, all_cells)) ∙ sym (get_or-append (take (cells P) (next_cells P F)) (drop (cells P) G) 0 c (rw all_taken k) ∙ get_or-take (cells P) (next_cells P F) c 0 k)

@@ -149,8 +149,8 @@ module _ (bs M : List ℕ) (h : ℕ) (F B : List ℕ) (ready : Ready bs M h F B)
       more_is : (Y : List ℕ) → Y ≡ next_part P x (take e F) (take (length C - x * w) (drop (x * w) C)) → put_mid (x * w) (length C - x * w) C Y ≡ laid_over ((x + 1) * w) N B
       more_is Y ey =
           let sized : length N ≡ cells P = next_length P (with_well_formed bs ready.accepted h ready.horizon_far) F ready.long_first in
-          let same-cut : take (cells P) (take e F) ≡ take (cells P) F = take-take (cells P) e F (omega arith) in
-          laid_part_back (x * w) w N B C Y (omega (arith, in_cells)) (omega (arith, in_cells, ready.long_second)) laid (ey ∙ ap₂ (λ (v : ℕ) (A : List ℕ). take v (drop (x * v) (next P A)) ++ drop v (take (length C - x * w) (drop (x * w) C))) (sym ew) same-cut) ∙ ap (λ (m : ℕ). laid_over m N B) (row_end x w)
+          let same_cut : take (cells P) (take e F) ≡ take (cells P) F = take-take (cells P) e F (omega arith) in
+          laid_part_back (x * w) w N B C Y (omega (arith, in_cells)) (omega (arith, in_cells, ready.long_second)) laid (ey ∙ ap₂ (λ (v : ℕ) (A : List ℕ). take v (drop (x * v) (next P A)) ++ drop v (take (length C - x * w) (drop (x * w) C))) (sym ew) same_cut) ∙ ap (λ (m : ℕ). laid_over m N B) (row_end x w)
 
 -- the code's numbers n and w are the points and the cells of a point
 pub all_laid : (P : Plan) (N B C : List ℕ) (x n w : ℕ) → x ≡ n → n ≡ P.points → w ≡ width P → C ≡ laid_over (x * w) N B → C ≡ laid_over (cells P) N B

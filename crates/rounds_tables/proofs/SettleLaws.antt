@@ -145,9 +145,9 @@ module _ (n w : ℕ) (S T₀ N noted₀ L₀ C₀ : List ℕ) (all : ℕ) (lent 
   -- a point that is done with no notes, and has no raised places
   quiet : (T noted L C : List ℕ) (changed x : ℕ) → x < n → get_or noted₀ x 0 ≡ 0 → get_or noted x 0 ≡ 0 → get_or C (2 * x) 0 ≡ 0 → 2 * x * w ≤ length L → ((t : ℕ) → t < w → get_or T (x * w + t) 0 ≡ get_or T₀ (x * w + t) 0) → LinesAt w T L (x * w) ((2 * x + 1) * w) (get_or C (2 * x + 1) 0)
       → Done w S T₀ T noted L C changed x
-  quiet T noted L C changed x h none now-none few long same lines = record {
+  quiet T noted L C changed x h none now_none few long same lines = record {
     cells_are = now;
-    no_notes = now-none;
+    no_notes = now_none;
     lists_are = lists_of w S L C x 0 (get_or C (2 * x + 1) 0) few refl (record { long = omega arith; within = λ i k. absurd (omega arith) }) (lines_kept w T S L L (x * w) ((2 * x + 1) * w) (get_or C (2 * x + 1) 0) lines (same_lines w T S (x * w) (λ t k. sym (now t k))) lines.places.long (λ i k. refl));
     raised_few = omega arith;
     all_raised = λ t k d. absurd (d (cells_agree x h none t k));
@@ -184,8 +184,8 @@ module _ (n w : ℕ) (S T₀ N noted₀ L₀ C₀ : List ℕ) (all : ℕ) (lent 
 
     own_lines : LinesAt w T L (y * w) ((2 * y + 1) * w) (get_or C (2 * y + 1) 0)
     own_lines =
-        let was-lines = lines_of_lem w T₀ L₀ C₀ y (lent.lists_are y inside) in
-        rw was.count_same (lines_kept w T₀ T L₀ L (y * w) ((2 * y + 1) * w) (get_or C₀ (2 * y + 1) 0) was-lines (same_lines w T₀ T (y * w) was.cells_same) (omega (arith, was-lines.places.long, sofar.lists_long)) (λ i k. was.lines_same i (omega (arith, was-lines.count_is, count_le (line_of T₀ (y * w)) w))))
+        let was_lines = lines_of_lem w T₀ L₀ C₀ y (lent.lists_are y inside) in
+        rw was.count_same (lines_kept w T₀ T L₀ L (y * w) ((2 * y + 1) * w) (get_or C₀ (2 * y + 1) 0) was_lines (same_lines w T₀ T (y * w) was.cells_same) (omega (arith, was_lines.places.long, sofar.lists_long)) (λ i k. was.lines_same i (omega (arith, was_lines.count_is, count_le (line_of T₀ (y * w)) w))))
 
     -- its places in the lists of numbers
     pub room : (y < length noted) × (2 * y + 1 < length C)
@@ -203,7 +203,7 @@ module _ (n w : ℕ) (S T₀ N noted₀ L₀ C₀ : List ℕ) (all : ℕ) (lent 
       lines_are = rw (get_or-set_other C (2 * y) (2 * y + 1) (get_or noted y 0) 0 (λ q. omega arith)) own_lines;
     }
 
-    module _ (rest : ℕ) (rest-is : rest ≡ remove left y) (less : rest < left) where
+    module _ (rest : ℕ) (rest_is : rest ≡ remove left y) (less : rest < left) where
       -- the pass leaves other points alone, and point y is done
       pub settled_more : (T' noted' L' C' : List ℕ) (changed' : ℕ) → ((x : ℕ) → x < n → (x ≡ y → ⊥) → Apart w T noted L C T' noted' L' C' x) → Done w S T₀ T' noted' L' C' changed' y → changed' < 2 ^ n → ((x : ℕ) → In changed x → In changed' x)
           → ((x : ℕ) → x < n → In changed' x → (t : ℕ) × (t < w) × (get_or T₀ (x * w + t) 0 < get_or S (x * w + t) 0)) → ((c : ℕ) → n * w ≤ c → get_or T' c 0 ≡ get_or T c 0)
@@ -212,7 +212,7 @@ module _ (n w : ℕ) (S T₀ N noted₀ L₀ C₀ : List ℕ) (all : ℕ) (lent 
         left_below = omega (arith, sofar.left_below);
         changed_below = below;
         differs = differs;
-        todo = λ x k r. let r' = subst (λ (s : ℕ). In s x) rest-is r in untouched_kept w T₀ noted₀ L₀ C₀ T noted L C T' noted' L' C' x (sofar.todo x k (in_whole left y x r')) (apart x k (λ q. not_in_rest left y (subst (In (remove left y)) q r')));
+        todo = λ x k r. let r' = subst (λ (s : ℕ). In s x) rest_is r in untouched_kept w T₀ noted₀ L₀ C₀ T noted L C T' noted' L' C' x (sofar.todo x k (in_whole left y x r')) (apart x k (λ q. not_in_rest left y (subst (In (remove left y)) q r')));
         done = λ x k r. go x k r (ℕ_discrete x y) (is? (contains left x));
         past_same = λ c k. past c k ∙ sofar.past_same c k;
         target_long = lt ∙ sofar.target_long;
@@ -223,7 +223,7 @@ module _ (n w : ℕ) (S T₀ N noted₀ L₀ C₀ : List ℕ) (all : ℕ) (lent 
         where
           go : (x : ℕ) → x < n → (In rest x → ⊥) → Dec (x ≡ y) → In left x ⊎ (contains left x ≡ false) → Done w S T₀ T' noted' L' C' changed' x
           go x k r (yes q) b = rw q own
-          go x k r (no q) (inl b) = absurd (r (rw rest-is (in_rest left y x b q)))
+          go x k r (no q) (inl b) = absurd (r (rw rest_is (in_rest left y x b q)))
           go x k r (no q) (inr b) = done_kept w S T₀ T noted L C T' noted' L' C' changed changed' x (sofar.done x k (is_not b)) (apart x k q) (more x)
 
       noted_cleared : (v : ℕ) (x : ℕ) → (x ≡ y → ⊥) → get_or (set noted y v) x 0 ≡ get_or noted x 0

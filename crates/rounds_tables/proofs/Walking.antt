@@ -54,7 +54,7 @@ lined_last n counts left found e l = record { below = l.found_below; has = λ x 
     go x (inl a) = absurd (none_in x (rw e at a))
     go x (inr a) = a
 
-module _ (n : ℕ) (counts : List ℕ) (left found y rest : ℕ) (sofar : LinedLeft n counts left found) (h : In left y) (rest-is : rest ≡ remove left y) (less : rest < left) where
+module _ (n : ℕ) (counts : List ℕ) (left found y rest : ℕ) (sofar : LinedLeft n counts left found) (h : In left y) (rest_is : rest ≡ remove left y) (less : rest < left) where
   pub lined_found : (b : ℕ) → b ≡ 2 ^ y → LinedLeft n counts rest (bit_or found b)
   lined_found b e = record { left_below = omega (arith, sofar.left_below); found_below = union_below n found b sofar.found_below (rw e (bit_below n y (point_below left n y h sofar.left_below))); has = λ x k l. one x (sofar.has x k l) }
     where
@@ -63,7 +63,7 @@ module _ (n : ℕ) (counts : List ℕ) (left found y rest : ℕ) (sofar : LinedL
       two x (inr q) = inr (in_right found b x (rw (e, q) (own_bit y)))
 
       one : (x : ℕ) → In left x ⊎ In found x → In rest x ⊎ In (bit_or found b) x
-      one x (inl a) = two x (left_or_taken left y rest x rest-is a)
+      one x (inl a) = two x (left_or_taken left y rest x rest_is a)
       one x (inr a) = inr (in_left found b x a)
 
   pub lined_passed : get_or counts (2 * y + 1) 0 ≤ 1 → LinedLeft n counts rest found
@@ -74,7 +74,7 @@ module _ (n : ℕ) (counts : List ℕ) (left found y rest : ℕ) (sofar : LinedL
       two x l (inr q) = absurd (omega (arith, ap (λ (z : ℕ). get_or counts (2 * z + 1) 0) q))
 
       one : (x : ℕ) → 1 < get_or counts (2 * x + 1) 0 → In left x ⊎ In found x → In rest x ⊎ In found x
-      one x l (inl a) = two x l (left_or_taken left y rest x rest-is a)
+      one x l (inl a) = two x l (left_or_taken left y rest x rest_is a)
       one x l (inr a) = inr a
 
 -- ---- raised cells above a horizon
@@ -104,7 +104,7 @@ over_last n w horizon table lists counts changed left e l = record { none = λ q
 
 pub over_passed : (n w horizon : ℕ) (table lists counts : List ℕ) (changed left y rest : ℕ) (over : Bool) → OverLeft n w horizon table lists counts changed left → rest ≡ remove left y → rest < left
     → NoneAbove horizon table lists (y * w) (2 * y * w) (get_or counts (2 * y) 0) over → over ≡ false → OverLeft n w horizon table lists counts changed rest
-over_passed n w horizon table lists counts changed left y rest over sofar rest-is less none e = record { left_below = omega (arith, sofar.left_below); low = λ x t h c r. one x t r (sofar.low x t h c r) }
+over_passed n w horizon table lists counts changed left y rest over sofar rest_is less none e = record { left_below = omega (arith, sofar.left_below); low = λ x t h c r. one x t r (sofar.low x t h c r) }
   where
     own : (t : ℕ) → Raised w lists counts y t → get_or table (y * w + t) 0 ≤ horizon
     own t r = rw r.is at (none.none e r.at r.below)
@@ -114,5 +114,5 @@ over_passed n w horizon table lists counts changed left y rest over sofar rest-i
     two x t r (inr q) = inr (rw q (own t (rw q at r)))
 
     one : (x t : ℕ) → Raised w lists counts x t → In left x ⊎ (get_or table (x * w + t) 0 ≤ horizon) → In rest x ⊎ (get_or table (x * w + t) 0 ≤ horizon)
-    one x t r (inl a) = two x t r (left_or_taken left y rest x rest-is a)
+    one x t r (inl a) = two x t r (left_or_taken left y rest x rest_is a)
     one x t r (inr a) = inr a

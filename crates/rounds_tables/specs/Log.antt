@@ -1,4 +1,4 @@
--- For inner contracts only: the log of rounds, from which the listing is written. Nothing here is to be believed.
+-- For inner contracts only: the log of rounds, from which a listing could be written without making the rounds again. Nothing here is to be believed.
 use Rattle.std.specs.Prelude.{◌≡◌, cond, List, [], ◌∷◌, ◌++◌, ℕ, zero, suc, ◌+◌, ◌*◌, ◌≤◌, ◌<◌, min, ltb, length, get_or, take}
 
 -- a raised cell with its wait, as one number; a raised cell's wait is above 0, and so is its entry

@@ -1,4 +1,4 @@
-// The log of a round: an entry for each cell that it raised, by cell, and a 0 at the end. From it the listing is written without making the rounds again.
+// The log of a round: an entry for each cell that it raised, by cell, and a 0 at the end. From it a listing could be written without making the rounds again; nothing keeps one yet.
 ghost use Rattle.std.specs.Prelude.{List, [], ◌∷◌, ◌++◌, ℕ, ◌+◌, ◌*◌, ◌≤◌, length};
 ghost use Rattle.plan.specs.Moments.{SameLength};
 ghost use Rattle.rounds_tables.specs.Log.{raised_entries, round_entries, Logged, LogGrew, CellLogLent, PointLogLent, LogLent};

@@ -120,9 +120,9 @@ module _ {low times n : ℕ} (f : FreeRun low times n) (mask : ℕ) (mask_is : m
 
         go : Dec (value_of low times u ≡ 0) → Outdone (SpreadGives given') B c k
         go (yes e) =
-            let u-is : u ≡ free_place low times b = sym (place_is f u) ∙ ap (λ (y : ℕ). y * low + free_place low times b) e ∙ ap (λ (y : ℕ). y + free_place low times b) (zero-mul low) ∙ zero-add (free_place low times b) in
-            let d : c ≡ free_place low times (bit_or a b) = r.holds.1.holds.0 ∙ ap₂ bit_or (ap (λ (y : ℕ). cleared y mask) t_is ∙ cleared_valued f mask mask_is a (value_of low times t) (value_below f t)) u-is ∙ free_joined f a b in
-            inr (get_or given' (bit_or a b) 0, given_more u-is, record { index = bit_or a b; below = joined_below f a b (index_below f t (omega (arith, r.below))) (index_below f u (omega (arith, r.holds.1.below))); holds = (d, refl) })
+            let u_is : u ≡ free_place low times b = sym (place_is f u) ∙ ap (λ (y : ℕ). y * low + free_place low times b) e ∙ ap (λ (y : ℕ). y + free_place low times b) (zero-mul low) ∙ zero-add (free_place low times b) in
+            let d : c ≡ free_place low times (bit_or a b) = r.holds.1.holds.0 ∙ ap₂ bit_or (ap (λ (y : ℕ). cleared y mask) t_is ∙ cleared_valued f mask mask_is a (value_of low times t) (value_below f t)) u_is ∙ free_joined f a b in
+            inr (get_or given' (bit_or a b) 0, given_more u_is, record { index = bit_or a b; below = joined_below f a b (index_below f t (omega (arith, r.below))) (index_below f u (omega (arith, r.holds.1.below))); holds = (d, refl) })
         go (no e) =
             let h : touches mask u ≡ true = ap (touches mask) (sym (place_is f u)) ∙ touches_valued f mask mask_is b (value_of low times u) (omega (arith, e)) (value_below f u) in
             inl (omega (arith, r.holds.1.holds.1, removed_touch (get_or F (x * w + t) 0) u (get_or F (other * w + u) 0) h))

@@ -24,7 +24,7 @@ use Rattle.rules_fill.specs.Steps.{when}
 use Rattle.rules_fill.specs.Shapes.{link_bit, digit_mask, label_mask, touches, cleared, weighed, is_line, is_plain, propagates, propagated, removed, removes}
 use Rattle.rules.proofs.Cells.{digit_mod}
 use Rattle.rules.proofs.Raising.{raise_none}
-use Rattle.rules_fill.proofs.PointLaws.{place, wait_at, gives, given_line, step_of_pair, is_line as lineThere}
+use Rattle.rules_fill.proofs.PointLaws.{place, wait_at, gives, given_line, step_of_pair, is_line as is_line_there}
 
 -- ---- tests of places
 or_swap : (a b : Bool) → a || b ≡ b || a
@@ -125,10 +125,10 @@ module _ (P : Plan) (A : List ℕ) (x : ℕ) where
 
         back : Is test → 0 < less_weight (constraint_of P e) w → Is (gives P A x (Propagation e) t 0)
         back h k =
-            let a : Is (lineThere P A (constraint_of P e).to t) = search (and_l, and_r) in
+            let a : Is (is_line_there P A (constraint_of P e).to t) = search (and_l, and_r) in
             let b : Is (plain P.propositions (t % 4 ^ P.propositions)) = search (and_l, and_r) in
             let c : Is (plain P.propositions (join P.propositions (constraint_of P e).label (t % 4 ^ P.propositions))) = search (and_l, and_r) in
-            let z : Is (lineThere P A 0 0) = tt in
+            let z : Is (is_line_there P A 0 0) = tt in
             let f : Is (eqb (constraint_of P e).to (constraint_of P e).to) = eqb_refl (constraint_of P e).to in
             let g : Is (eqb (constraint_of P e).from x) = eq→eqb mine in
             let l : Is (ltb 0 (less_weight (constraint_of P e) w)) = lt→ltb 0 (less_weight (constraint_of P e) w) k in
@@ -155,10 +155,10 @@ module _ (P : Plan) (A : List ℕ) (x : ℕ) where
 
         back : Is test → 0 < w + 0 - P.least i → Is (gives P A x (LowerCase i) t 0)
         back h k =
-            let a : Is (lineThere P A (P.finish i) t) = search (and_l, and_r) in
+            let a : Is (is_line_there P A (P.finish i) t) = search (and_l, and_r) in
             let b : Is (not (contains (t / 4 ^ P.propositions) i)) = search (and_l, and_r) in
             let c : Is (plain P.propositions (t % 4 ^ P.propositions)) = search (and_l, and_r) in
-            let z : Is (lineThere P A 0 0) = tt in
+            let z : Is (is_line_there P A 0 0) = tt in
             let f : Is (eqb (P.finish i) (P.finish i)) = eqb_refl (P.finish i) in
             let g : Is (eqb (P.activation i) x) = eq→eqb mine in
             let l : Is (ltb 0 (w - P.least i)) = lt→ltb 0 (w - P.least i) (omega arith) in
@@ -185,9 +185,9 @@ module _ (P : Plan) (A : List ℕ) (x : ℕ) where
 
         back : Is test → 0 < w + P.most i - 0 → Is (gives P A x (UpperCase i) t 0)
         back h k =
-            let a : Is (lineThere P A (P.activation i) t) = search (and_l, and_r) in
+            let a : Is (is_line_there P A (P.activation i) t) = search (and_l, and_r) in
             let c : Is (plain P.propositions (t % 4 ^ P.propositions)) = search (and_l, and_r) in
-            let z : Is (lineThere P A 0 0) = tt in
+            let z : Is (is_line_there P A 0 0) = tt in
             let f : Is (eqb (P.activation i) (P.activation i)) = eqb_refl (P.activation i) in
             let g : Is (eqb (P.finish i) x) = eq→eqb mine in
             search and_i
@@ -225,10 +225,10 @@ module _ (P : Plan) (A : List ℕ) (x : ℕ) where
 
       back : Is test → 0 < min w (v + P.least i) → Is (gives P A x (LetterRemoval i) t u)
       back h k =
-          let a : Is (lineThere P A (P.activation i) u) = search (and_l, and_r) in
+          let a : Is (is_line_there P A (P.activation i) u) = search (and_l, and_r) in
           let b : Is on = search and_l in
           let c : Is off = search (and_l, and_r) in
-          let z : Is (lineThere P A x t) = or_right (eqb t 0) (ltb 0 w) (lt→ltb 0 w (omega arith)) in
+          let z : Is (is_line_there P A x t) = or_right (eqb t 0) (ltb 0 w) (lt→ltb 0 w (omega arith)) in
           let f : Is (eqb (P.activation i) (P.activation i)) = eqb_refl (P.activation i) in
           let g : Is (eqb x x) = eqb_refl x in
           search and_i
@@ -253,8 +253,8 @@ module _ (P : Plan) (A : List ℕ) (x : ℕ) where
 
       back : Is test → 0 < w → Is (gives P A x (OwnLiteral j) t 0)
       back h k =
-          let a : Is (lineThere P A x t) = or_right (eqb t 0) (ltb 0 w) (lt→ltb 0 w k) in
-          let z : Is (lineThere P A 0 0) = tt in
+          let a : Is (is_line_there P A x t) = or_right (eqb t 0) (ltb 0 w) (lt→ltb 0 w k) in
+          let z : Is (is_line_there P A 0 0) = tt in
           let f : Is (eqb x (P.observer j)) = eq→eqb (sym mine) in
           let g : Is (eqb x x) = eqb_refl x in
           let l : Is (ltb 0 w) = lt→ltb 0 w k in
@@ -293,10 +293,10 @@ module _ (P : Plan) (A : List ℕ) (x : ℕ) where
 
       back : Is test → 0 < min w (v + 0) → Is (gives P A x (LiteralRemoval j) t u)
       back h k =
-          let a : Is (lineThere P A (P.observer j) u) = search (and_l, and_r) in
+          let a : Is (is_line_there P A (P.observer j) u) = search (and_l, and_r) in
           let b : Is on = search and_l in
           let c : Is off = search (and_l, and_r) in
-          let z : Is (lineThere P A x t) = or_right (eqb t 0) (ltb 0 w) (lt→ltb 0 w (omega arith)) in
+          let z : Is (is_line_there P A x t) = or_right (eqb t 0) (ltb 0 w) (lt→ltb 0 w (omega arith)) in
           let f : Is (eqb (P.observer j) (P.observer j)) = eqb_refl (P.observer j) in
           let g : Is (eqb x x) = eqb_refl x in
           let l : Is (ltb 0 v) = lt→ltb 0 v (omega arith) in

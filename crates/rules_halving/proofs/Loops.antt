@@ -74,6 +74,6 @@ all_joined G from n top i G' e l = record { greater = λ j h. l.greater j (omega
 pub nothing_new : (n : ℕ) (F G : List ℕ) (from : ℕ) (H : List ℕ) (f g m l : ℕ) → NoneAbove F 0 n f → NoneAbove G from n g → m ≡ min f g → NoneBelow H n l → m ≤ l
     → (a b c : ℕ) → a < n → b < n → c < n → pair_wait F G from a b ≤ get_or H c 0
 unfolding pair_wait
-nothing_new n F G from H f g m l above-first above-second e below h a b c i j k =
-    let first : get_or F a 0 ≤ f = rw zero-add at (above-first.at_most a i) in
-    omega (arith, first, above-second.at_most b j, below.at_least c k)
+nothing_new n F G from H f g m l above_first above_second e below h a b c i j k =
+    let first : get_or F a 0 ≤ f = rw zero-add at (above_first.at_most a i) in
+    omega (arith, first, above_second.at_most b j, below.at_least c k)

@@ -13,21 +13,21 @@ use lib.Seq.{get_or-take, get_or-drop, get_or-append-add}
 use Rattle.rules_halving.specs.Products.{pair_wait, PairGives, Product}
 
 -- ---- joined places, by halves of z places each
-module _ (p : ℕ) (z a b : ℕ) (z-is : z ≡ 2 ^ p) (h : a < z) (k : b < z) where
+module _ (p : ℕ) (z a b : ℕ) (z_is : z ≡ 2 ^ p) (h : a < z) (k : b < z) where
   blocks : (i j : ℕ) → bit_or (i * 2 ^ p + a) (j * 2 ^ p + b) ≡ bit_or i j * 2 ^ p + bit_or a b
-  blocks i j = or_block p i j a b (rw (← z-is) h) (rw (← z-is) k)
+  blocks i j = or_block p i j a b (rw (← z_is) h) (rw (← z_is) k)
 
   pub or_low : bit_or a b < z
-  or_low = rw z-is (or_lt p a b (rw (← z-is) h) (rw (← z-is) k))
+  or_low = rw z_is (or_lt p a b (rw (← z_is) h) (rw (← z_is) k))
 
   pub or_mixed : bit_or a (z + b) ≡ z + bit_or a b
-  or_mixed = rw z-is (simp (zero-mul, one-mul, zero-add) at (blocks 0 1))
+  or_mixed = rw z_is (simp (zero-mul, one-mul, zero-add) at (blocks 0 1))
 
   pub or_mixed' : bit_or (z + a) b ≡ z + bit_or a b
-  or_mixed' = rw z-is (simp (zero-mul, one-mul, zero-add) at (blocks 1 0))
+  or_mixed' = rw z_is (simp (zero-mul, one-mul, zero-add) at (blocks 1 0))
 
   pub or_high : bit_or (z + a) (z + b) ≡ z + bit_or a b
-  or_high = rw z-is (simp one-mul at (blocks 1 1))
+  or_high = rw z_is (simp one-mul at (blocks 1 1))
 
 -- the half in which a place lies
 abbrev Side : ℕ → ℕ → Type 0
@@ -41,7 +41,7 @@ side z c h = go (dec_le z c)
     go (no k) = inl (omega arith)
 
 -- L, U and U' are the lower half, and the upper half after the second and the third call
-module _ (p z from top : ℕ) (F G G₁ G₃ H L U U' : List ℕ) (z-is : z ≡ 2 ^ p) (long : length L ≡ z)
+module _ (p z from top : ℕ) (F G G₁ G₃ H L U U' : List ℕ) (z_is : z ≡ 2 ^ p) (long : length L ≡ z)
     (kept : (i : ℕ) → i < z → get_or G₁ (from + z + i) 0 ≡ get_or G (from + (z + i)) 0)
     (greater : (i : ℕ) → i < z → get_or G₃ (top + i) 0 ≡ max (get_or G (from + i) 0) (get_or G (from + (z + i)) 0))
     (low : Product z (take z F) G from (take z H) L) (mixed : Product z (take z F) G₁ (from + z) (drop z H) U) (high : Product z (drop z F) G₃ top U U') where
@@ -69,19 +69,19 @@ module _ (p z from top : ℕ) (F G G₁ G₃ H L U U' : List ℕ) (z-is : z ≡ 
   no_lower c (inr (d, h, e)) = rw e (omega (arith, made_high d, get_or-drop z H d 0, mixed.no_lower d h, high.no_lower d h))
 
   covers : (a b : ℕ) → Side z a → Side z b → pair_wait F G from a b ≤ get_or (L ++ U') (bit_or a b) 0
-  covers a b (inl h) (inl k) = omega (arith, made_low (bit_or a b) (or_low p z a b z-is h k), wait_low a b h, low.covers a b h k)
+  covers a b (inl h) (inl k) = omega (arith, made_low (bit_or a b) (or_low p z a b z_is h k), wait_low a b h, low.covers a b h k)
   covers a b (inl h) (inr (y, k, e)) =
-      rw (e, or_mixed p z a y z-is h k) (omega (arith, made_high (bit_or a y), wait_mixed a y h k, mixed.covers a y h k, high.no_lower (bit_or a y) (or_low p z a y z-is h k)))
-  covers a b (inr (x, h, e)) (inl k) = rw (e, or_mixed' p z x b z-is h k) (omega (arith, made_high (bit_or x b), wait_high x b k, high.covers x b h k))
-  covers a b (inr (x, h, e)) (inr (y, k, q)) = rw (e, q, or_high p z x y z-is h k) (omega (arith, made_high (bit_or x y), wait_high x y k, high.covers x y h k))
+      rw (e, or_mixed p z a y z_is h k) (omega (arith, made_high (bit_or a y), wait_mixed a y h k, mixed.covers a y h k, high.no_lower (bit_or a y) (or_low p z a y z_is h k)))
+  covers a b (inr (x, h, e)) (inl k) = rw (e, or_mixed' p z x b z_is h k) (omega (arith, made_high (bit_or x b), wait_high x b k, high.covers x b h k))
+  covers a b (inr (x, h, e)) (inr (y, k, q)) = rw (e, q, or_high p z x y z_is h k) (omega (arith, made_high (bit_or x y), wait_high x y k, high.covers x y h k))
 
   -- of two waits the greater is one of them
   from_high : (d v : ℕ) (g : PairGives z (drop z F) G₃ top d v) → Dec (pair_wait F G from (z + g.a) (z + g.b) ≤ pair_wait F G from (z + g.a) g.b) → PairGives (z + z) F G from (z + d) v
-  from_high d v g (yes l) = record { a = z + g.a; b = g.b; a_below = omega (arith, g.a_below); b_below = omega (arith, g.b_below); joined = or_mixed' p z g.a g.b z-is g.a_below g.b_below ∙ ap (λ (k : ℕ). z + k) g.joined; wait = omega (arith, g.wait, wait_high g.a g.b g.b_below) }
-  from_high d v g (no l) = record { a = z + g.a; b = z + g.b; a_below = omega (arith, g.a_below); b_below = omega (arith, g.b_below); joined = or_high p z g.a g.b z-is g.a_below g.b_below ∙ ap (λ (k : ℕ). z + k) g.joined; wait = omega (arith, g.wait, wait_high g.a g.b g.b_below) }
+  from_high d v g (yes l) = record { a = z + g.a; b = g.b; a_below = omega (arith, g.a_below); b_below = omega (arith, g.b_below); joined = or_mixed' p z g.a g.b z_is g.a_below g.b_below ∙ ap (λ (k : ℕ). z + k) g.joined; wait = omega (arith, g.wait, wait_high g.a g.b g.b_below) }
+  from_high d v g (no l) = record { a = z + g.a; b = z + g.b; a_below = omega (arith, g.a_below); b_below = omega (arith, g.b_below); joined = or_high p z g.a g.b z_is g.a_below g.b_below ∙ ap (λ (k : ℕ). z + k) g.joined; wait = omega (arith, g.wait, wait_high g.a g.b g.b_below) }
 
   from_mixed : (d v : ℕ) → PairGives z (take z F) G₁ (from + z) d v → PairGives (z + z) F G from (z + d) v
-  from_mixed d v g = record { a = g.a; b = z + g.b; a_below = omega (arith, g.a_below); b_below = omega (arith, g.b_below); joined = or_mixed p z g.a g.b z-is g.a_below g.b_below ∙ ap (λ (k : ℕ). z + k) g.joined; wait = g.wait ∙ wait_mixed g.a g.b g.a_below g.b_below }
+  from_mixed d v g = record { a = g.a; b = z + g.b; a_below = omega (arith, g.a_below); b_below = omega (arith, g.b_below); joined = or_mixed p z g.a g.b z_is g.a_below g.b_below ∙ ap (λ (k : ℕ). z + k) g.joined; wait = g.wait ∙ wait_mixed g.a g.b g.a_below g.b_below }
 
   from_low : (c v : ℕ) → PairGives z (take z F) G from c v → PairGives (z + z) F G from c v
   from_low c v g = record { a = g.a; b = g.b; a_below = omega (arith, g.a_below); b_below = omega (arith, g.b_below); joined = g.joined; wait = g.wait ∙ wait_low g.a g.b g.a_below }

@@ -67,7 +67,7 @@ module _ {P : Plan} {E : Durations} {q : ℕ} (wf : WellFormed P) (some : 0 < q)
   }
 
   -- ---- the histories of a moment agree where all that comes before it does
-  module _ (t d m : ℕ) (behind-ends : 0 < d) (within : moment_at P t d ≤ m) where
+  module _ (t d m : ℕ) (behind_ends : 0 < d) (within : moment_at P t d ≤ m) where
     observed_too : (r u : Drama P E) → Alike σ r u m → SameBefore σ r u (moment_at P t d) → (j : ℕ) (b : Bool) → Observed σ t d r j b → Observed σ t d u j b
     observed_too r u a s j b o =
         let k = lower_before P (σ.time r (P.observer j)) t (σ.position r (P.observer j)) d o.by_then o.before in

@@ -66,9 +66,9 @@ module _ {P : Plan} {q : ℕ} (wf : WellFormed P) (some : 0 < q) (panel : Panel 
 
       go : (r : Drama P (LeastOrMost P)) → SpeaksOf σ (result P (Propagation e) l m) r → q * less_weight (constraint_of P e) l.wait ≤ σ.time r (constraint_of P e).from
       go r s =
-          let of-edge = true_of P r.scenario (constraint_of P e).label J s.label_true f.2 (join_left P.propositions (constraint_of P e).label l.label) in
-          let of-line = true_of P r.scenario l.label J s.label_true f.2 (join_right P.propositions (constraint_of P e).label l.label) in
-          edge_kept e h r of-edge l.wait (rw f.0 at (a.waits r (plain_speaks l r f.1 of-line s.set_longest)))
+          let of_edge = true_of P r.scenario (constraint_of P e).label J s.label_true f.2 (join_left P.propositions (constraint_of P e).label l.label) in
+          let of_line = true_of P r.scenario l.label J s.label_true f.2 (join_right P.propositions (constraint_of P e).label l.label) in
+          edge_kept e h r of_edge l.wait (rw f.0 at (a.waits r (plain_speaks l r f.1 of_line s.set_longest)))
 
   -- ---- 6.2
   lower : (i : ℕ) → i < P.links → (l m : Line) → Holds σ q l → Fires P (LowerCase i) l m → Holds σ q (result P (LowerCase i) l m)

@@ -24,7 +24,7 @@ use Rattle.rules_fill.specs.declared.shapes.Remover.{Remover}
 use Rattle.rules_fill.specs.Parents.{first_point, second_point}
 use Rattle.rules_fill.specs.Rows.{EdgeRow, LowerRow, UpperRow}
 use Rattle.rules_fill.specs.Shapes.{label_mask, touches, cleared, propagated, removes}
-use Rattle.rules_fill.proofs.PointLaws.{place, gives, given_line, is_line as lineThere}
+use Rattle.rules_fill.proofs.PointLaws.{place, gives, given_line, is_line as is_line_there}
 use Rattle.rules_fill.proofs.ShapeGives.{Gives, line_same, propagation_gives, lower_gives, upper_gives}
 use Rattle.rules_fill.proofs.ShapeLaws.{or_in, label_in, link_in_lem, cleared_le, all_in_by, width_pos}
 use Rattle.rules_listed.specs.Places.{Listed}
@@ -75,13 +75,13 @@ module _ (P : Plan) (A L counts : List ℕ) (x : ℕ) (inside : x < P.points) wh
       Goal : Type 0
       Goal = OrListed (width P) L counts (first_point P r x) (second_point P r) t u (a ≤ get_or A (x * width P + d) 0)
 
-      lined : (y v : ℕ) → y < P.points → v < width P → Is (lineThere P A y v) → Lined (width P) L counts y v
+      lined : (y v : ℕ) → y < P.points → v < width P → Is (is_line_there P A y v) → Lined (width P) L counts y v
       lined y v hy hv i = (lists.of_point y hy).all_lines v hv (rw (line_same v (get_or A (y * width P + v) 0)) i)
 
       both : Is (gives P A x r t u) → Lined (width P) L counts (first_point P r x) t × Lined (width P) L counts (second_point P r) u
       both h =
-          let f : Is (lineThere P A (first_point P r x) t) = search (and_l, and_r) in
-          let s : Is (lineThere P A (second_point P r) u) = search (and_l, and_r) in
+          let f : Is (is_line_there P A (first_point P r x) t) = search (and_l, and_r) in
+          let s : Is (is_line_there P A (second_point P r) u) = search (and_l, and_r) in
           (lined (first_point P r x) t first_in ht f, lined (second_point P r) u second_in hu s)
 
       pick : Lined (width P) L counts (first_point P r x) t × Lined (width P) L counts (second_point P r) u → OrRaised P L counts x r t u (a ≤ get_or A (x * width P + d) 0) → Goal
@@ -99,11 +99,11 @@ module _ (P : Plan) (A L counts : List ℕ) (x mask : ℕ) (mask_is : mask ≡ l
   row_by : (by : Propagator) (f a d u v : ℕ) → by.from ≡ f → by.avoid ≡ a → by.add ≡ d → by.up ≡ u → by.down ≡ v → by.down < 65536 → f < P.points → d < width P
       → ((t : ℕ) → t < width P → Raised (width P) L counts f t ⊎ (propagated (label_mask P.propositions) a d u v t (get_or A (f * width P + t) 0) ≤ get_or A (x * width P + bit_or t d) 0))
       → RowOf P A L counts mask x by
-  row_by by f a d u v e1 e2 e3 e4 e5 small f-in d-in given =
+  row_by by f a d u v e1 e2 e3 e4 e5 small f_in d_in given =
       record {
-        from_in = rw e1 f-in;
+        from_in = rw e1 f_in;
         down_small = small;
-        joins = λ t h. rw e3 (or_in P t d h d-in);
+        joins = λ t h. rw e3 (or_in P t d h d_in);
         rest = λ t h. rw (mask_is, e1, e2, e3, e4, e5) (given t h);
       }
 

@@ -121,8 +121,8 @@ module _ {bs M : List ℕ} {horizon : ℕ} {F L counts rows : List ℕ} {w mask 
         → (PropagatorLent M F B w mask by × (w ≤ 65536)) × (Places L (2 * by.from * w) n w × (PropagateRest w F L n mask by B × Noted w F (x * w) B N count))
     propagate_lends by n k e =
         let P = plan_with bs horizon in
-        let add-in : by.add < width P = rw (or_zero_l by.add) at (k.joins 0 (width_pos P)) in (
-          (propagate_lent bs M F B w mask by.from by.add by record { lent = record { accepted = lent.accepted; bound = lent.bound; long_first = lent.long_first; long_part = rw lent.numbers.width_is at noted.part_long }; numbers = lent.numbers; marked = lent.marked } k.down_small refl k.from_in refl add-in, narrow),
+        let add_in : by.add < width P = rw (or_zero_l by.add) at (k.joins 0 (width_pos P)) in (
+          (propagate_lent bs M F B w mask by.from by.add by record { lent = record { accepted = lent.accepted; bound = lent.bound; long_first = lent.long_first; long_part = rw lent.numbers.width_is at noted.part_long }; numbers = lent.numbers; marked = lent.marked } k.down_small refl k.from_in refl add_in, narrow),
           (
             raised_in by.from n k.from_in e,
             (propagate_rest P F L counts x w lent.numbers.width_is B noted.no_lower n mask by e k, noted),

@@ -131,13 +131,13 @@ module _ (P : Plan) (few : Bounded P) (A : List ℕ) (long : 692 ≤ length A) w
       let B = heads_cleared P A in
       let C = observers_put P B in
       let b = heads_within P few A long in
-      let long-b : 692 ≤ length B = omega (arith, b.as_long) in
-      let c = observers_within P few B long-b in
-      let long-c : 692 ≤ length C = omega (arith, c.as_long) in
-      let d = links_within P few C long-c in
+      let long_b : 692 ≤ length B = omega (arith, b.as_long) in
+      let c = observers_within P few B long_b in
+      let long_c : 692 ≤ length C = omega (arith, c.as_long) in
+      let d = links_within P few C long_c in
       record {
         long = omega (arith, d.as_long);
-        others = links_read P few C long-c (observer_at P few B long-b);
+        others = links_read P few C long_c (observer_at P few B long_b);
         first_is = λ x h. d.below x (omega (arith, few.points_in)) ∙ c.below x (omega (arith, few.points_in)) ∙ head_at P few A long x h ∙ sym (next_edge_none P x);
         to_is = λ i h g. absurd (omega arith);
         label_is = λ i h g. absurd (omega arith);
