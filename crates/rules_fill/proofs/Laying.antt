@@ -1,11 +1,11 @@
 -- Laws of `laid_over`: one cell more, a part of the second table lent from a cell on and given back, and a list of values of a function.
-use mathlib.Core.Path.{◌≡◌, refl, sym, ap, ap₂, ◌∙◌}
-use mathlib.Core.List.{List, ◌++◌, append_assoc, append-nil, map}
+use mathlib.Core.Path.{◌≡◌, refl, sym, ap, ◌∙◌}
+use mathlib.Core.List.{List, ◌++◌, append-nil, map}
 use Prim.Native.Nat.{ℕ, zero, suc, ◌+◌, ◌-◌, ◌<◌, ◌≤◌}
 use native.Mathlib.Omega.{arith}
 use native.Mathlib.Numerals.{add-one}
 use lib.ListN.{length, get_or, take, drop, set, length-append, length-take, length-drop, drop_of_length-le}
-use lib.Seq.{take-suc, drop-cons, set_at, length-take-le, append_snoc, take_at, drop_at, take-add, drop-drop, take_all}
+use lib.Seq.{take-suc, drop-cons, set_at, length-take-le, append_snoc, take_all}
 use borrow.Rule.Slice.PartMut.{put_mid}
 use Rattle.rules.specs.Lines.{from_to}
 use Rattle.rules_fill.specs.Parts.{laid_over}
@@ -23,22 +23,11 @@ unfolding laid_over
 laid_more n S B h k = ap (λ (l : List ℕ). set (take n S ++ l) n (get_or S n 0)) (drop-cons B n 0 k) ∙ set_at (take n S) (get_or B n 0) (drop (suc n) B) (get_or S n 0) n (length-take-le n S (omega arith)) ∙ sym (append_snoc (take n S) (get_or S n 0) (drop (suc n) B)) ∙ rw (add-one, take-suc S n 0)
 
 -- ---- a part: what is lent from cell a to the end, and the table when it is back
-pub laid_part : (a m : ℕ) (S B : List ℕ) → a + m ≤ length S → a + m ≤ length B → take a (laid_over a S B) ++ laid_over m (drop a S) (drop a (laid_over a S B)) ≡ laid_over (a + m) S B
-unfolding laid_over
-laid_part a m S B h k =
-    let e : length (take a S) ≡ a = length-take-le a S (omega arith) in
-    ap₂ (λ (p q : List ℕ). p ++ (take m (drop a S) ++ drop m q)) (take_at (take a S) (drop a B) a e) (drop_at (take a S) (drop a B) a e)
-    ∙ sym (append_assoc (take a S) (take m (drop a S)) (drop m (drop a B))) ∙ ap₂ (λ (p q : List ℕ). p ++ q) (sym (take-add a m S)) (drop-drop m a B)
-
 pub lent_part : (a : ℕ) (B : List ℕ) → take (length B - a) (drop a B) ≡ drop a B
 lent_part a B = take_all (length B - a) (drop a B) (simp length-drop (omega arith))
 
 pub lent_back : (a : ℕ) (B Y : List ℕ) → put_mid a (length B - a) B Y ≡ take a B ++ Y
 lent_back a B Y = ap (λ (l : List ℕ). take a B ++ (Y ++ l)) (drop_of_length-le (drop a B) {i = length B - a} (simp length-drop (omega arith))) ∙ ap (λ (l : List ℕ). take a B ++ l) (append-nil Y)
-
--- the part from cell a on was filled with S's next m cells
-pub laid_part_back : (a m : ℕ) (S B C Y : List ℕ) → a + m ≤ length S → a + m ≤ length B → C ≡ laid_over a S B → Y ≡ laid_over m (drop a S) (take (length C - a) (drop a C)) → put_mid a (length C - a) C Y ≡ laid_over (a + m) S B
-laid_part_back a m S B C Y h k e f = lent_back a C Y ∙ ap (λ (l : List ℕ). take a C ++ l) (f ∙ ap (laid_over m (drop a S)) (lent_part a C)) ∙ ap (λ (l : List ℕ). take a l ++ laid_over m (drop a S) (drop a l)) e ∙ laid_part a m S B h k
 
 -- ---- the values of a function at the n numbers from i on
 pub values_length : (f : ℕ → ℕ) (n i : ℕ) → length (map f (from_to i n)) ≡ n

@@ -15,7 +15,7 @@ use Rattle.plan.proofs.LabelLaws.{four, four_pos}
 use Rattle.rules.specs.declared.Edge.TheVariants.{HorizonEdge}
 use Rattle.rules.specs.Tables.{raise_cell}
 use Rattle.rules_fill.specs.Steps.{when, steps}
-use Rattle.rules_fill.specs.Shapes.{link_bit, touches, cleared, weighed, is_line, is_plain, propagates, propagated, removed, propagate_step, propagate_in, remove_step, remove_one, remove_cell, remove_from, remove_in, clear_cell, clear_from, clear_in, edge_in_step, letter_in, literal_in, fill_edges, fill_horizon, fill_activation, fill_finish, fill_own_literal, fill_link, fill_links, fill_proposition, fill_propositions, filled}
+use Rattle.rules_fill.specs.Shapes.{link_bit, touches, cleared, weighed, is_line, is_plain, propagates, propagated, removed, propagate_step, propagate_in, remove_step, remove_one, remove_cell, remove_in, clear_cell, clear_from, clear_in, edge_in_step, letter_in, literal_in, fill_edges, fill_horizon, fill_activation, fill_finish, fill_own_literal, fill_link, fill_links, fill_proposition, fill_propositions, filled}
 use Rattle.rules.proofs.Raising.{raise_none}
 use Rattle.rules_fill.proofs.StepLaws.{when_true, when_false, steps_idle, steps_more}
 
@@ -111,12 +111,6 @@ step_made f t B C D e g = g ∙ ap (f t) e ∙ steps_more f t B
 pub done : (f : ℕ → List ℕ → List ℕ) (t n : ℕ) (B C : List ℕ) → C ≡ steps f t B → t ≡ n → C ≡ steps f n B
 done f t n B C e h = e ∙ ap (λ (k : ℕ). steps f k B) h
 
--- a step of a loop that begins at lo
-pub turn_from : (f : ℕ → List ℕ → List ℕ) (lo t : ℕ) (B C D : List ℕ) → lo ≤ t → C ≡ steps (λ i. f (lo + i)) (t - lo) B → D ≡ f t C → D ≡ steps (λ i. f (lo + i)) (t + 1 - lo) B
-turn_from f lo t B C D h e g =
-    let a : t ≡ lo + (t - lo) = omega arith in
-    done _ (t - lo + 1) (t + 1 - lo) B D (step_made (λ i. f (lo + i)) (t - lo) B C D e (g ∙ ap (λ (k : ℕ). f k C) a)) (omega arith)
-
 pub propagate_step_lem : (m : ℕ) (A : List ℕ) (mask from avoid add up down t v w : ℕ) (C D : List ℕ) → w ≡ get_or A (from * m + t) 0 → v ≡ propagated mask avoid add up down t w → D ≡ raise_cell (bit_or t add) v C → D ≡ propagate_step m A mask from avoid add up down t C
 unfolding propagate_step
 propagate_step_lem m A mask from avoid add up down t v w C D e f g = g ∙ ap (λ (x : ℕ). raise_cell (bit_or t add) x C) (f ∙ ap (propagated mask avoid add up down t) e)
@@ -138,14 +132,6 @@ remove_cell_none m A other mask add t w B e = rw e (go (touches mask t))
     go true = remove_nothing m A other mask add (cleared t mask) B ∙ when_true true _ B refl
     go false = when_false false _ B refl
 
-pub remove_cell_pass : (m : ℕ) (A : List ℕ) (other mask add t w : ℕ) (B : List ℕ) → touches mask t ≡ false → B ≡ remove_cell m A other mask add t w B
-unfolding remove_cell
-remove_cell_pass m A other mask add t w B e = when_false (touches mask t) _ B e
-
-pub remove_cell_goes : (m : ℕ) (A : List ℕ) (other mask add t w place : ℕ) (B D : List ℕ) → touches mask t ≡ true → place ≡ cleared t mask → D ≡ remove_one m A other mask add place w B → D ≡ remove_cell m A other mask add t w B
-unfolding remove_cell
-remove_cell_goes m A other mask add t w place B D e f g = g ∙ ap (λ (c : ℕ). remove_one m A other mask add c w B) f ∙ when_true (touches mask t) _ B e
-
 pub clear_pass : (mask t w : ℕ) (B : List ℕ) → touches mask t ≡ false → B ≡ clear_cell mask t w B
 unfolding clear_cell
 clear_pass mask t w B e = when_false (touches mask t) _ B e
@@ -157,10 +143,6 @@ clear_goes mask t w place B D e f g = g ∙ ap (λ (c : ℕ). raise_cell c w B) 
 pub clear_step : (m : ℕ) (A : List ℕ) (mask x t w : ℕ) (C D : List ℕ) → w ≡ get_or A (x * m + t) 0 → D ≡ clear_cell mask t w C → D ≡ clear_from m A mask x t C
 unfolding clear_from
 clear_step m A mask x t w C D e f = f ∙ ap (λ (v : ℕ). clear_cell mask t v C) e
-
-pub remove_cell_step : (m : ℕ) (A : List ℕ) (other mask add x t w : ℕ) (C D : List ℕ) → w ≡ get_or A (x * m + t) 0 → D ≡ remove_cell m A other mask add t w C → D ≡ remove_from m A other mask add x t C
-unfolding remove_from
-remove_cell_step m A other mask add x t w C D e f = f ∙ ap (λ (v : ℕ). remove_cell m A other mask add t v C) e
 
 -- ---- rows: the same numbers, held in other words
 pub propagate_by : (F B D : List ℕ) (w m k k' f f' a a' d d' u u' v v' : ℕ) → w ≡ m → k ≡ k' → f ≡ f' → a ≡ a' → d ≡ d' → u ≡ u' → v ≡ v' → D ≡ propagate_in w F k f a d u v B → D ≡ propagate_in m F k' f' a' d' u' v' B

@@ -1,5 +1,5 @@
 -- For inner contracts only: what the parts of a fill are lent. Nothing here is to be believed: the whole makes `next_part`.
-use Rattle.std.specs.Prelude.{◌≡◌, List, ℕ, ◌<◌}
+use Rattle.std.specs.Prelude.{◌≡◌, List, ℕ}
 use Rattle.plan.specs.Label.{Marks}
 use Rattle.plan.specs.Plan.{width}
 use Rattle.plan.specs.Layout.{plan_of}
@@ -16,9 +16,3 @@ pub record RowsLent (plan marks first part : List ℕ) (w mask : ℕ) : Type 0 w
   pub lent : Lent plan first part
   pub numbers : FillNumbers plan w mask
   pub marked : Marks marks
-
--- for rules 4 to 6 of point x
-pub record RemovalLent (plan first part : List ℕ) (w x : ℕ) : Type 0 where
-  pub lent : Lent plan first part
-  pub width_is : w ≡ width (plan_of plan)
-  pub point_in : x < (plan_of plan).points

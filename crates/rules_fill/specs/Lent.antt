@@ -1,6 +1,5 @@
 -- For inner contracts only: what filling one point's part is lent. Nothing here is to be believed.
-use Rattle.std.specs.Prelude.{List, ℕ, ◌≤◌, ◌<◌, length}
-use Rattle.plan.specs.Label.{Marks}
+use Rattle.std.specs.Prelude.{List, ℕ, ◌≤◌, length}
 use Rattle.plan.specs.Plan.{width, cells}
 use Rattle.plan.specs.Layout.{plan_of}
 use Rattle.plan.specs.Refusal.{Accepted}
@@ -12,10 +11,3 @@ pub record Lent (plan first part : List ℕ) : Type 0 where
   pub bound : AtMost 4000000000 first
   pub long_first : cells (plan_of plan) ≤ length first
   pub long_part : width (plan_of plan) ≤ length part
-
--- and the marks, a horizon no shorter than the plan's own, and a point x of the plan
-pub record FillLent (plan marks : List ℕ) (horizon : ℕ) (first part : List ℕ) (x : ℕ) : Type 0 where
-  pub lent : Lent plan first part
-  pub marked : Marks marks
-  pub horizon_far : (plan_of plan).horizon ≤ horizon
-  pub point_in : x < (plan_of plan).points
