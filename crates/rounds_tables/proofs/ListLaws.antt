@@ -1,5 +1,6 @@
 -- Laws of the lists of points: those of a point that a change leaves alone, and all lines listed point by point.
 use mathlib.Core.Path.{◌≡◌, refl, ◌∙◌}
+use mathlib.Core.Bool.{Bool, false}
 use mathlib.Core.List.{List}
 use Prim.Native.Nat.{ℕ, ◌+◌, ◌*◌, ◌≤◌, ◌<◌}
 use native.Mathlib.Decide.{ℕ_discrete}
@@ -10,7 +11,7 @@ use lib.Seq.{get_or-set_same, get_or-set_other}
 use Rattle.rules_listed.specs.Places.{Listed, Places}
 use Rattle.rules_refill.specs.Lists.{Raised, PointLists}
 use Rattle.rounds_tables.specs.Settling.{LinesAt, ListedPoint}
-use Rattle.rounds_tables.specs.Known.{AllListed}
+use Rattle.rounds_tables.specs.Known.{NoneAbove, AllListed}
 use Rattle.rounds_tables.proofs.RoundLaws.{row_within}
 use Rattle.rules_listed.proofs.Counting.{count_le}
 use Rattle.rounds_tables.proofs.LineLists.{line_of, known_few}
@@ -35,6 +36,12 @@ module _ (w : ℕ) (L C L' C' : List ℕ) (x : ℕ) (same : SameLists w L C L' C
 
   pub raised_kept : (t : ℕ) → Raised w L C x t → Raised w L' C' x t
   raised_kept t l = listed_kept w L L' (2 * x * w) (get_or C (2 * x) 0) (get_or C' (2 * x) 0) same.raised_count raised_stay t l
+
+  pub low_kept : (horizon : ℕ) (A : List ℕ) (over over' : Bool) → (over' ≡ false → over ≡ false) → NoneAbove horizon A L (x * w) (2 * x * w) (get_or C (2 * x) 0) over → NoneAbove horizon A L' (x * w) (2 * x * w) (get_or C' (2 * x) 0) over'
+  low_kept horizon A over over' back low = record { none = λ e i k. at i (omega (arith, same.raised_count)) (back e) }
+    where
+      at : (i : ℕ) → i < get_or C (2 * x) 0 → over ≡ false → get_or A (x * w + get_or L' (2 * x * w + i) 0) 0 ≤ horizon
+      at i k e = rw (raised_stay i k) (low.none e i k)
 
   pub lists_kept : (A : List ℕ) → PointLists w A L C x → PointLists w A L' C' x
   lists_kept A p = record { raised_places = places_kept w L L' (2 * x * w) (get_or C (2 * x) 0) (get_or C' (2 * x) 0) same.raised_count raised_stay same.as_long p.raised_places; line_places = places_kept w L L' ((2 * x + 1) * w) (get_or C (2 * x + 1) 0) (get_or C' (2 * x + 1) 0) same.line_count lines_stay same.as_long p.line_places; line_count = same.line_count ∙ p.line_count; all_lines = λ t h k. listed_kept w L L' ((2 * x + 1) * w) (get_or C (2 * x + 1) 0) (get_or C' (2 * x + 1) 0) same.line_count lines_stay t (p.all_lines t h k) }

@@ -1,29 +1,24 @@
--- Laws of lent tables: what the loops over cells find, the first cells laid over a table, and a round point by point.
+-- Laws of lent tables: what the loops over cells find, and the first cells laid over a table.
 use mathlib.Core.Path.{◌≡◌, refl, sym, ap, ap₂, ◌∙◌}
 use mathlib.Core.Bool.{Bool, true, false}
-use mathlib.Core.Logic.{◌⊎◌, inl, inr}
-use mathlib.Core.List.{List, ◌++◌}
-use Prim.Native.Nat.{ℕ, zero, suc, ◌+◌, ◌*◌, ◌-◌, ◌≤◌, ◌<◌}
-use native.Mathlib.Nat.{le_refl, add-zero, suc-mul, mul-le-mul_right}
+use mathlib.Core.List.{List}
+use Prim.Native.Nat.{ℕ, zero, suc, ◌+◌, ◌*◌, ◌≤◌, ◌<◌}
+use native.Mathlib.Nat.{add-zero, suc-mul, mul-le-mul_right}
 use native.Mathlib.Numerals.{add-one}
+use native.Mathlib.Decide.{ℕ_discrete}
 use native.Mathlib.Omega.{arith}
-use borrow.Rule.Slice.PartMut.{put_mid, same_len_mid}
-use lib.ListN.{length, get_or, take, drop, replicate, set, length-take, length-drop, length-replicate, get_or-replicate}
-use lib.Seq.{take-suc, take-take, length-take-le, get_or-take}
-use Rattle.plan.specs.Plan.{Plan, width, cells}
-use Rattle.plan.specs.Layout.{plan_of}
-use Rattle.plan.specs.Horizons.{plan_with}
+use lib.ListN.{length, get_or, take, replicate, set, length-take, length-replicate, get_or-replicate}
+use lib.Seq.{take-suc, length-take-le, get_or-take}
+use Rattle.plan.specs.Plan.{Plan, cells}
 use Rattle.plan.proofs.Ranges.{WellFormed}
-use Rattle.plan.proofs.Horizons.{with_well_formed}
-use Rattle.rules.specs.Tables.{next}
-use Rattle.rules_fill.specs.Parts.{next_cells, AtMost, laid_over, next_part}
+use Rattle.rules_fill.specs.Parts.{next_cells, laid_over}
 use Rattle.rules.proofs.Next.{next_is}
-use Rattle.rules_fill.proofs.ShapeLaws.{row_in}
-use Rattle.rules_fill.specs.Lent.{Lent}
-use Rattle.rules_fill.proofs.Laying.{laid_more, lent_part, laid_part_back}
+use Rattle.rules_fill.proofs.Laying.{laid_more}
+use Rattle.rules_listed.specs.Places.{Places}
+use Rattle.rules_refill.specs.Lists.{Lined}
 use Rattle.rounds_tables.specs.Cells.{same, any_above}
 use Rattle.rounds_points.specs.PointSets.{In}
-use Rattle.rounds_tables.specs.Ready.{Ready, SameOutside, Compared}
+use Rattle.rounds_tables.specs.Ready.{CompareLent, Compared}
 use Rattle.rounds_tables.proofs.Comparing.{same_eq, none_above, some_above}
 
 -- ---- what the loops find
@@ -53,28 +48,29 @@ row_within x n w h = rw suc-mul at (mul-le-mul_right w h)
 pub row_end : (x w : ℕ) → x * w + w ≡ (x + 1) * w
 row_end x w = rw (add-one, suc-mul)
 
--- how many cells of a point are compared, and that then the point's cells agree
-pub compared_most : {set x w k : ℕ} → Compared set x w k → k ≤ w
-compared_most {set} {x} {w} {k} c = go c.all_or_none
+-- a cell read at a place as listed
+pub listed_same : (A B : List ℕ) (base c d : ℕ) → c ≡ d → get_or A (base + c) 0 ≡ get_or B (base + c) 0 → get_or A (base + d) 0 ≡ get_or B (base + d) 0
+listed_same A B base c d e h = rw e at h
+
+-- the places of a point's lines that are compared
+pub compared_places : (A B L C : List ℕ) (n w set x k : ℕ) → CompareLent n w A B L C set → x < n → Compared C set x k → Places L ((2 * x + 1) * w) k w
+compared_places A B L C n w set x k lent h c =
+    let p = lent.places x h in
+    record { long = omega (arith, p.long, c.most); within = λ i l. p.within i (omega (arith, c.most)) }
+
+-- a point's cells agree, where its lines that are compared do
+pub point_passed : (A B L C : List ℕ) (n w set x k : ℕ) → CompareLent n w A B L C set → x < n → Compared C set x k → ((i : ℕ) → i < k → get_or A (x * w + get_or L ((2 * x + 1) * w + i) 0) 0 ≡ get_or B (x * w + get_or L ((2 * x + 1) * w + i) 0) 0)
+    → take (x * w) A ≡ take (x * w) B → take ((x + 1) * w) A ≡ take ((x + 1) * w) B
+point_passed A B L C n w set x k lent h c passed before =
+    let inside : x * w + w ≤ n * w = row_within x n w h in
+    rw (row_end x w) at (alike_row A B (x * w) w (omega (arith, lent.long_first)) (omega (arith, lent.long_second)) before (λ t l. cell t l (ℕ_discrete (get_or A (x * w + t) 0) (get_or B (x * w + t) 0))))
   where
-    go : (k ≡ w) ⊎ ((k ≡ 0) × (In set x → ⊥)) → k ≤ w
-    go (inl e) = omega arith
-    go (inr e) = omega (arith, e.0)
+    line : (t : ℕ) → In set x → Lined w L C x t → get_or A (x * w + t) 0 ≡ get_or B (x * w + t) 0
+    line t i l = rw l.is at (passed l.at (omega (arith, l.below, c.all i)))
 
-pub point_passed : (A B : List ℕ) (n w set x k t : ℕ) → SameOutside n w A B set → x < n → n * w ≤ length A → n * w ≤ length B → Compared set x w k → t ≡ k → take (x * w + t) A ≡ take (x * w + t) B → take ((x + 1) * w) A ≡ take ((x + 1) * w) B
-point_passed A B n w set x k t o h la lb c e d = go c.all_or_none
-  where
-    end : x * w + w ≡ (x + 1) * w
-    end = row_end x w
-
-    inside : x * w + w ≤ n * w
-    inside = row_within x n w h
-
-    go : (k ≡ w) ⊎ ((k ≡ 0) × (In set x → ⊥)) → take ((x + 1) * w) A ≡ take ((x + 1) * w) B
-    go (inl q) = let r : x * w + t ≡ (x + 1) * w = omega (arith, end) in rw r at d
-    go (inr q) =
-        let r : x * w + t ≡ x * w = omega (arith, q.0) in
-        rw end at (alike_row A B (x * w) w (omega (arith, inside)) (omega (arith, inside)) (rw r at d) (λ u l. o.cell x u h l q.1))
+    cell : (t : ℕ) → t < w → Dec (get_or A (x * w + t) 0 ≡ get_or B (x * w + t) 0) → get_or A (x * w + t) 0 ≡ get_or B (x * w + t) 0
+    cell t l (yes e) = e
+    cell t l (no e) = lent.others_same x t h l (λ i d. e (line t i d))
 
 -- a cell is above 0
 pub above_at : (A : List ℕ) (n k : ℕ) → k < n → (get_or A k 0 ≡ 0 → ⊥) → any_above (take n A) ≡ true
@@ -100,58 +96,6 @@ above_nowhere A n z = go (any_above (take n A)) refl
 pub laid_cleared : (n c : ℕ) (B C : List ℕ) → c < n → c < length B → C ≡ laid_over c (replicate n 0) B → set C c 0 ≡ laid_over (c + 1) (replicate n 0) B
 laid_cleared n c B C h k e = ap₂ (λ (l : List ℕ) (v : ℕ). set l c v) e (sym (get_or-replicate n c 0 0 h)) ∙ laid_more c (replicate n 0) B (rw length-replicate h) k
 
--- ---- a round, point by point
--- a point's row lies within the cells
+-- ---- a round
 pub next_length : (P : Plan) → WellFormed P → (F : List ℕ) → cells P ≤ length F → length (next_cells P F) ≡ cells P
 next_length P wf F h = let e = length-take-le (cells P) F h in (next_is P wf (take (cells P) F) e).as_long ∙ e
-
--- where a loop over the points stands at point x: the code's numbers w and e are the cells of a point and the cells; the second table was B, and is C
-pub record AtPoint (bs : List ℕ) (h : ℕ) (F B : List ℕ) (w e x : ℕ) (C : List ℕ) : Type 0 where
-  pub width_is : w ≡ width (plan_of bs)
-  pub cells_is : e ≡ cells (plan_of bs)
-  pub x_in : x < (plan_of bs).points
-  pub row : x * w + w ≤ length C
-  -- the cells of the first table are lent, and the part of the second that starts at the point's first cell
-  pub cut : e ≡ length (take e F)
-  pub lent : Lent bs (take e F) (take (length C - x * w) (drop (x * w) C))
-  pub laid : C ≡ laid_over (x * w) (next_cells (plan_with bs h) F) B
-  -- a part with the point's next cells lays them over
-  pub more : (Y : List ℕ) → Y ≡ next_part (plan_with bs h) x (take e F) (take (length C - x * w) (drop (x * w) C)) → put_mid (x * w) (length C - x * w) C Y ≡ laid_over ((x + 1) * w) (next_cells (plan_with bs h) F) B
-  pub as_long : (Y : List ℕ) → length Y ≡ length (take (length C - x * w) (drop (x * w) C)) → length (put_mid (x * w) (length C - x * w) C Y) ≡ length B
-
-module _ (bs M : List ℕ) (h : ℕ) (F B : List ℕ) (ready : Ready bs M h F B) where
-  pub at_point : AtMost 4000000000 (take (cells (plan_of bs)) F) → (n w e x : ℕ) (C : List ℕ) → n ≡ (plan_of bs).points → w ≡ width (plan_of bs) → e ≡ cells (plan_of bs) → x < n
-      → C ≡ laid_over (x * w) (next_cells (plan_with bs h) F) B → length C ≡ length B → AtPoint bs h F B w e x C
-  unfolding laid_over
-  at_point bound n w e x C en ew ee x_in laid long = record { width_is = ew; cells_is = ee; x_in = x_inside; row = within; cut = cut_is; lent = lent_is; laid = laid; more = more_is; as_long = λ Y h. same_len_mid (x * w) (length C - x * w) C Y h ∙ long }
-    where
-      P : Plan
-      P = plan_with bs h
-
-      N : List ℕ
-      N = next_cells P F
-
-      x_inside : x < P.points
-      x_inside = omega arith
-
-      in_cells : x * w + w ≤ cells P
-      in_cells = row_in P x (cells P) w x x_inside (le_refl (cells P)) ew refl
-
-      within : x * w + w ≤ length C
-      within = omega (arith, in_cells, ready.long_second)
-
-      cut_is : e ≡ length (take e F)
-      cut_is = sym (length-take-le e F (omega (arith, ready.long_first)))
-
-      lent_is : Lent bs (take e F) (take (length C - x * w) (drop (x * w) C))
-      lent_is = record { accepted = ready.accepted; bound = rw ee bound; long_first = omega (arith, cut_is); long_part = rw (← ew) (simp (lent_part, length-drop) (omega (arith, within))) }
-
-      more_is : (Y : List ℕ) → Y ≡ next_part P x (take e F) (take (length C - x * w) (drop (x * w) C)) → put_mid (x * w) (length C - x * w) C Y ≡ laid_over ((x + 1) * w) N B
-      more_is Y ey =
-          let sized : length N ≡ cells P = next_length P (with_well_formed bs ready.accepted h ready.horizon_far) F ready.long_first in
-          let same-cut : take (cells P) (take e F) ≡ take (cells P) F = take-take (cells P) e F (omega arith) in
-          laid_part_back (x * w) w N B C Y (omega (arith, in_cells)) (omega (arith, in_cells, ready.long_second)) laid (ey ∙ ap₂ (λ (v : ℕ) (A : List ℕ). take v (drop (x * v) (next P A)) ++ drop v (take (length C - x * w) (drop (x * w) C))) (sym ew) same-cut) ∙ ap (λ (m : ℕ). laid_over m N B) (row_end x w)
-
--- the code's numbers n and w are the points and the cells of a point
-pub all_laid : (P : Plan) (N B C : List ℕ) (x n w : ℕ) → x ≡ n → n ≡ P.points → w ≡ width P → C ≡ laid_over (x * w) N B → C ≡ laid_over (cells P) N B
-all_laid P N B C x n w e en ew laid = laid ∙ ap (λ (m : ℕ). laid_over m N B) (ap₂ (λ (a b : ℕ). a * b) (e ∙ en) ew)

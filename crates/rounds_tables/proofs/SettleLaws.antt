@@ -1,6 +1,6 @@
 -- Laws of the copy of all noted cells: where it stands, with points left and points done, and what it leaves.
 use mathlib.Core.Path.{◌≡◌, refl, sym, ap, subst, ◌∙◌}
-use mathlib.Core.Bool.{false}
+use mathlib.Core.Bool.{Bool, false}
 use mathlib.Core.Logic.{◌⊎◌, inl, inr}
 use mathlib.Core.List.{List, ◌++◌}
 use Prim.Native.Nat.{ℕ, ◌+◌, ◌-◌, ◌*◌, ◌/◌, ◌%◌, ◌^◌, ◌≤◌, ◌<◌}
@@ -21,12 +21,13 @@ use Rattle.rules_listed.specs.Notes.{raised_at, Noted}
 use Rattle.rules_refill.specs.Lists.{Raised, PointLists}
 use Rattle.rounds_points.specs.PointSets.{In}
 use Rattle.rounds_points.proofs.PointSets.{none_in, point_below, own_bit, only_own, in_left, in_right, in_either, union_below, in_whole, in_rest, not_in_rest}
-use Rattle.rounds_tables.specs.Known.{SettleLent, AfterSettle}
-use Rattle.rounds_tables.specs.Settling.{LinesAt, PointLent, AfterPoint}
+use Rattle.rounds_tables.specs.declared.settling.Settled.{Settled}
+use Rattle.rounds_tables.specs.Known.{SettleLent, AfterSettle, LinedIn, NoneAbove, NoneRaisedAbove}
+use Rattle.rounds_tables.specs.Settling.{LinesAt, PointLent, AfterPoint, LinedWith, ChangedLent, AfterChanged}
 use Rattle.rounds_tables.proofs.RoundLaws.{row_within}
 use Rattle.rules_listed.proofs.Counting.{count_le, count_alike}
 use Rattle.rounds_tables.proofs.LineLists.{line_of, lines_kept}
-use Rattle.rounds_tables.proofs.ListLaws.{SameLists, lists_of, lines_of_lem, lists_kept, raised_kept, first_written, second_written, others_written}
+use Rattle.rounds_tables.proofs.ListLaws.{SameLists, lists_of, lines_of_lem, lists_kept, raised_kept, low_kept, first_written, second_written, others_written}
 use Rattle.rounds_tables.proofs.NotedLaws.{NotedAt, noted_at}
 use Rattle.rounds_tables.proofs.Walking.{bit_below}
 
@@ -38,13 +39,14 @@ pub record Untouched (w : ℕ) (T₀ noted₀ L₀ C₀ T noted L C : List ℕ) 
   pub lines_same : (i : ℕ) → i < w → get_or L ((2 * x + 1) * w + i) 0 ≡ get_or L₀ ((2 * x + 1) * w + i) 0
 
 -- a point that is done has the source's cells, its lists, and no notes
-pub record Done (w : ℕ) (S T₀ T noted L C : List ℕ) (changed x : ℕ) : Type 0 where
+pub record Done (w horizon : ℕ) (S T₀ T noted L C : List ℕ) (changed : ℕ) (over : Bool) (x : ℕ) : Type 0 where
   pub cells_are : (t : ℕ) → t < w → get_or T (x * w + t) 0 ≡ get_or S (x * w + t) 0
   pub no_notes : get_or noted x 0 ≡ 0
   pub lists_are : PointLists w S L C x
   pub raised_few : get_or C (2 * x) 0 ≤ w
   pub all_raised : (t : ℕ) → t < w → (get_or S (x * w + t) 0 ≡ get_or T₀ (x * w + t) 0 → ⊥) → Raised w L C x t
   pub raised_in : 0 < get_or C (2 * x) 0 → In changed x
+  pub low : NoneAbove horizon S L (x * w) (2 * x * w) (get_or C (2 * x) 0) over
 
 -- a pass leaves point x alone
 pub record Apart (w : ℕ) (T noted L C T' noted' L' C' : List ℕ) (x : ℕ) : Type 0 where
@@ -60,23 +62,24 @@ untouched_kept w T₀ noted₀ L₀ C₀ T noted L C T' noted' L' C' x u a = rec
   lines_same = λ i h. a.lists_same.entries ((2 * x + 1) * w + i) (omega arith) (omega arith) ∙ u.lines_same i h;
 }
 
-done_kept : (w : ℕ) (S T₀ T noted L C T' noted' L' C' : List ℕ) (changed changed' x : ℕ) → Done w S T₀ T noted L C changed x → Apart w T noted L C T' noted' L' C' x → (In changed x → In changed' x) → Done w S T₀ T' noted' L' C' changed' x
-done_kept w S T₀ T noted L C T' noted' L' C' changed changed' x d a more = record {
+done_kept : (w horizon : ℕ) (S T₀ T noted L C T' noted' L' C' : List ℕ) (changed changed' : ℕ) (over over' : Bool) (x : ℕ) → Done w horizon S T₀ T noted L C changed over x → Apart w T noted L C T' noted' L' C' x → (In changed x → In changed' x) → (over' ≡ false → over ≡ false) → Done w horizon S T₀ T' noted' L' C' changed' over' x
+done_kept w horizon S T₀ T noted L C T' noted' L' C' changed changed' over over' x d a more back = record {
   cells_are = λ t h. a.cells_same t h ∙ d.cells_are t h;
   no_notes = a.noted_same ∙ d.no_notes;
   lists_are = lists_kept w L C L' C' x a.lists_same d.raised_few S d.lists_are;
   raised_few = omega (arith, a.lists_same.raised_count, d.raised_few);
   all_raised = λ t h k. raised_kept w L C L' C' x a.lists_same d.raised_few t (d.all_raised t h k);
   raised_in = λ h. more (d.raised_in (omega (arith, a.lists_same.raised_count)));
+  low = low_kept w L C L' C' x a.lists_same d.raised_few horizon S over over' back d.low;
 }
 
 -- ---- where the copy stands
-pub record SettledTo (n w : ℕ) (S T₀ noted₀ L₀ C₀ T noted L C : List ℕ) (left changed : ℕ) : Type 0 where
+pub record SettledTo (n w horizon : ℕ) (S T₀ noted₀ L₀ C₀ T noted L C : List ℕ) (left changed : ℕ) (over : Bool) : Type 0 where
   pub left_below : left < 2 ^ n
   pub changed_below : changed < 2 ^ n
   pub differs : (x : ℕ) → x < n → In changed x → (t : ℕ) × (t < w) × (get_or T₀ (x * w + t) 0 < get_or S (x * w + t) 0)
   pub todo : (x : ℕ) → x < n → In left x → Untouched w T₀ noted₀ L₀ C₀ T noted L C x
-  pub done : (x : ℕ) → x < n → (In left x → ⊥) → Done w S T₀ T noted L C changed x
+  pub done : (x : ℕ) → x < n → (In left x → ⊥) → Done w horizon S T₀ T noted L C changed over x
   pub past_same : (c : ℕ) → n * w ≤ c → get_or T c 0 ≡ get_or T₀ c 0
   pub target_long : length T ≡ length T₀
   pub noted_long : length noted ≡ length noted₀
@@ -130,7 +133,23 @@ laid_by n w S B A hs hb long rows past = ext_get_or 0 A (laid_over (n * w) S B) 
     go c (yes h) = cell c h (some c h (ℕ_discrete w 0)) ∙ sym (laid_low (n * w) S B c hs h)
     go c (no h) = past c (omega arith) ∙ sym (laid_high (n * w) S B c hs (omega arith))
 
-module _ (n w : ℕ) (S T₀ N noted₀ L₀ C₀ : List ℕ) (all : ℕ) (lent : SettleLent n w S T₀ N noted₀ L₀ C₀ all) where
+-- ---- points with a line beside the starting line, in a pass for point y
+-- no notes
+pub lined_quiet : (n : ℕ) (C : List ℕ) (lined y v : ℕ) → LinedIn n C lined → LinedIn n (set C (2 * y) v) lined
+lined_quiet n C lined y v l = record { below = l.below; has = λ x h k. l.has x h (omega (arith, get_or-set_other C (2 * y) (2 * x + 1) v 0 (λ q. omega arith))) }
+
+-- its notes copied
+pub lined_copied : (n : ℕ) (C : List ℕ) (lined y v lines lined' : ℕ) → y < n → 2 * y + 1 < length C → LinedIn n C lined → LinedWith lined y lines lined' → LinedIn n (set (set C (2 * y) v) (2 * y + 1) lines) lined'
+lined_copied n C lined y v lines lined' inside room l more = record { below = more.below n inside l.below; has = λ x h k. go x h k (ℕ_discrete x y) }
+  where
+    C' : List ℕ
+    C' = set (set C (2 * y) v) (2 * y + 1) lines
+
+    go : (x : ℕ) → x < n → 1 < get_or C' (2 * x + 1) 0 → Dec (x ≡ y) → In lined' x
+    go x h k (yes e) = rw e (more.has (omega (arith, second_written C y v lines room, rw e at k)))
+    go x h k (no e) = more.keeps x (l.has x h (omega (arith, others_written C y v lines room (2 * x + 1) (λ q. omega arith) (λ q. e (omega arith)))))
+
+module _ (n w horizon : ℕ) (S T₀ N noted₀ L₀ C₀ : List ℕ) (all : ℕ) (lent : SettleLent n w S T₀ N noted₀ L₀ C₀ all) where
   notes_at : (x : ℕ) → x < n → NotedAt w S T₀ N (x * w) (get_or noted₀ x 0)
   notes_at x h = noted_at w S T₀ N (x * w) (get_or noted₀ x 0) (lent.notes_are.at x h)
 
@@ -143,15 +162,16 @@ module _ (n w : ℕ) (S T₀ N noted₀ L₀ C₀ : List ℕ) (all : ℕ) (lent 
       go (no q) = absurd (omega (arith, ((notes_at x h).all t k q).below))
 
   -- a point that is done with no notes, and has no raised places
-  quiet : (T noted L C : List ℕ) (changed x : ℕ) → x < n → get_or noted₀ x 0 ≡ 0 → get_or noted x 0 ≡ 0 → get_or C (2 * x) 0 ≡ 0 → 2 * x * w ≤ length L → ((t : ℕ) → t < w → get_or T (x * w + t) 0 ≡ get_or T₀ (x * w + t) 0) → LinesAt w T L (x * w) ((2 * x + 1) * w) (get_or C (2 * x + 1) 0)
-      → Done w S T₀ T noted L C changed x
-  quiet T noted L C changed x h none now-none few long same lines = record {
+  quiet : (T noted L C : List ℕ) (changed : ℕ) (over : Bool) (x : ℕ) → x < n → get_or noted₀ x 0 ≡ 0 → get_or noted x 0 ≡ 0 → get_or C (2 * x) 0 ≡ 0 → 2 * x * w ≤ length L → ((t : ℕ) → t < w → get_or T (x * w + t) 0 ≡ get_or T₀ (x * w + t) 0) → LinesAt w T L (x * w) ((2 * x + 1) * w) (get_or C (2 * x + 1) 0)
+      → Done w horizon S T₀ T noted L C changed over x
+  quiet T noted L C changed over x h none now-none few long same lines = record {
     cells_are = now;
     no_notes = now-none;
     lists_are = lists_of w S L C x 0 (get_or C (2 * x + 1) 0) few refl (record { long = omega arith; within = λ i k. absurd (omega arith) }) (lines_kept w T S L L (x * w) ((2 * x + 1) * w) (get_or C (2 * x + 1) 0) lines (same_lines w T S (x * w) (λ t k. sym (now t k))) lines.places.long (λ i k. refl));
     raised_few = omega arith;
     all_raised = λ t k d. absurd (d (cells_agree x h none t k));
     raised_in = λ k. absurd (omega arith);
+    low = record { none = λ e i k. absurd (omega arith) };
   }
     where
       now : (t : ℕ) → t < w → get_or T (x * w + t) 0 ≡ get_or S (x * w + t) 0
@@ -160,13 +180,13 @@ module _ (n w : ℕ) (S T₀ N noted₀ L₀ C₀ : List ℕ) (all : ℕ) (lent 
   row_fits : (x : ℕ) → x < n → (2 * x + 1) * w + w ≤ length L₀
   row_fits x h = omega (arith, row_within x n w h, lent.lists_long)
 
-  pub settled_none : SettledTo n w S T₀ noted₀ L₀ C₀ T₀ noted₀ L₀ C₀ all 0
+  pub settled_none : SettledTo n w horizon S T₀ noted₀ L₀ C₀ T₀ noted₀ L₀ C₀ all 0 false
   settled_none = record {
     left_below = lent.set_below;
     changed_below = pow_pos n;
     differs = λ x h k. absurd (none_in x k);
     todo = λ x h k. record { cells_same = λ t l. refl; noted_same = refl; count_same = refl; lines_same = λ i l. refl };
-    done = λ x h k. let none = lent.notes_are.outside x h k in quiet T₀ noted₀ L₀ C₀ 0 x h none none (lent.none_raised x h k) (omega (arith, row_fits x h)) (λ t l. refl) (lines_of_lem w T₀ L₀ C₀ x (lent.lists_are x h));
+    done = λ x h k. let none = lent.notes_are.outside x h k in quiet T₀ noted₀ L₀ C₀ 0 false x h none none (lent.none_raised x h k) (omega (arith, row_fits x h)) (λ t l. refl) (lines_of_lem w T₀ L₀ C₀ x (lent.lists_are x h));
     past_same = λ c h. refl;
     target_long = refl;
     noted_long = refl;
@@ -175,8 +195,8 @@ module _ (n w : ℕ) (S T₀ N noted₀ L₀ C₀ : List ℕ) (all : ℕ) (lent 
   }
 
   -- ---- a pass, for point y
-  module _ (T noted L C : List ℕ) (left changed : ℕ) (sofar : SettledTo n w S T₀ noted₀ L₀ C₀ T noted L C left changed) (y : ℕ) (h : In left y) where
-    pub inside : y < n
+  module _ (T noted L C : List ℕ) (left changed : ℕ) (over : Bool) (sofar : SettledTo n w horizon S T₀ noted₀ L₀ C₀ T noted L C left changed over) (y : ℕ) (h : In left y) where
+    inside : y < n
     inside = point_below left n y h sofar.left_below
 
     was : Untouched w T₀ noted₀ L₀ C₀ T noted L C y
@@ -191,7 +211,7 @@ module _ (n w : ℕ) (S T₀ N noted₀ L₀ C₀ : List ℕ) (all : ℕ) (lent 
     pub room : (y < length noted) × (2 * y + 1 < length C)
     room = (omega (arith, inside, lent.notes_are.long, sofar.noted_long), omega (arith, inside, lent.counts_long, sofar.counts_long))
 
-    pub point_lent : PointLent w S T N (get_or noted y 0) L (get_or (set C (2 * y) (get_or noted y 0)) (2 * y + 1) 0) y
+    point_lent : PointLent w S T N (get_or noted y 0) L (get_or (set C (2 * y) (get_or noted y 0)) (2 * y + 1) 0) y
     point_lent = record {
       few = omega (arith, inside, lent.few);
       narrow = lent.narrow;
@@ -203,12 +223,15 @@ module _ (n w : ℕ) (S T₀ N noted₀ L₀ C₀ : List ℕ) (all : ℕ) (lent 
       lines_are = rw (get_or-set_other C (2 * y) (2 * y + 1) (get_or noted y 0) 0 (λ q. omega arith)) own_lines;
     }
 
+    pub changed_lent : ChangedLent w S T N (get_or noted y 0) L (set C (2 * y) (get_or noted y 0)) y
+    changed_lent = record { counts_long = simp length-set room.1; lent = point_lent }
+
     module _ (rest : ℕ) (rest-is : rest ≡ remove left y) (less : rest < left) where
       -- the pass leaves other points alone, and point y is done
-      pub settled_more : (T' noted' L' C' : List ℕ) (changed' : ℕ) → ((x : ℕ) → x < n → (x ≡ y → ⊥) → Apart w T noted L C T' noted' L' C' x) → Done w S T₀ T' noted' L' C' changed' y → changed' < 2 ^ n → ((x : ℕ) → In changed x → In changed' x)
+      settled_more : (T' noted' L' C' : List ℕ) (changed' : ℕ) (over' : Bool) → ((x : ℕ) → x < n → (x ≡ y → ⊥) → Apart w T noted L C T' noted' L' C' x) → Done w horizon S T₀ T' noted' L' C' changed' over' y → changed' < 2 ^ n → ((x : ℕ) → In changed x → In changed' x) → (over' ≡ false → over ≡ false)
           → ((x : ℕ) → x < n → In changed' x → (t : ℕ) × (t < w) × (get_or T₀ (x * w + t) 0 < get_or S (x * w + t) 0)) → ((c : ℕ) → n * w ≤ c → get_or T' c 0 ≡ get_or T c 0)
-          → length T' ≡ length T → length noted' ≡ length noted → length L' ≡ length L → length C' ≡ length C → SettledTo n w S T₀ noted₀ L₀ C₀ T' noted' L' C' rest changed'
-      settled_more T' noted' L' C' changed' apart own below more differs past lt ln ll lc = record {
+          → length T' ≡ length T → length noted' ≡ length noted → length L' ≡ length L → length C' ≡ length C → SettledTo n w horizon S T₀ noted₀ L₀ C₀ T' noted' L' C' rest changed' over'
+      settled_more T' noted' L' C' changed' over' apart own below more back differs past lt ln ll lc = record {
         left_below = omega (arith, sofar.left_below);
         changed_below = below;
         differs = differs;
@@ -221,17 +244,17 @@ module _ (n w : ℕ) (S T₀ N noted₀ L₀ C₀ : List ℕ) (all : ℕ) (lent 
         counts_long = lc ∙ sofar.counts_long;
       }
         where
-          go : (x : ℕ) → x < n → (In rest x → ⊥) → Dec (x ≡ y) → In left x ⊎ (contains left x ≡ false) → Done w S T₀ T' noted' L' C' changed' x
+          go : (x : ℕ) → x < n → (In rest x → ⊥) → Dec (x ≡ y) → In left x ⊎ (contains left x ≡ false) → Done w horizon S T₀ T' noted' L' C' changed' over' x
           go x k r (yes q) b = rw q own
           go x k r (no q) (inl b) = absurd (r (rw rest-is (in_rest left y x b q)))
-          go x k r (no q) (inr b) = done_kept w S T₀ T noted L C T' noted' L' C' changed changed' x (sofar.done x k (is_not b)) (apart x k q) (more x)
+          go x k r (no q) (inr b) = done_kept w horizon S T₀ T noted L C T' noted' L' C' changed changed' over over' x (sofar.done x k (is_not b)) (apart x k q) (more x) back
 
       noted_cleared : (v : ℕ) (x : ℕ) → (x ≡ y → ⊥) → get_or (set noted y v) x 0 ≡ get_or noted x 0
       noted_cleared v x q = get_or-set_other noted y x v 0 q
 
       -- no notes
-      pub settled_quiet : get_or noted y 0 ≡ 0 → SettledTo n w S T₀ noted₀ L₀ C₀ T (set noted y 0) L (set C (2 * y) (get_or noted y 0)) rest changed
-      settled_quiet e = settled_more T (set noted y 0) L (set C (2 * y) (get_or noted y 0)) changed apart own sofar.changed_below (λ x k. k) sofar.differs (λ c k. refl) refl (simp length-set) refl (simp length-set)
+      pub settled_quiet : get_or noted y 0 ≡ 0 → SettledTo n w horizon S T₀ noted₀ L₀ C₀ T (set noted y 0) L (set C (2 * y) (get_or noted y 0)) rest changed over
+      settled_quiet e = settled_more T (set noted y 0) L (set C (2 * y) (get_or noted y 0)) changed over apart own sofar.changed_below (λ x k. k) (λ q. q) sofar.differs (λ c k. refl) refl (simp length-set) refl (simp length-set)
         where
           other : (i : ℕ) → (i ≡ 2 * y → ⊥) → get_or (set C (2 * y) (get_or noted y 0)) i 0 ≡ get_or C i 0
           other i d = get_or-set_other C (2 * y) i (get_or noted y 0) 0 d
@@ -239,13 +262,13 @@ module _ (n w : ℕ) (S T₀ N noted₀ L₀ C₀ : List ℕ) (all : ℕ) (lent 
           apart : (x : ℕ) → x < n → (x ≡ y → ⊥) → Apart w T noted L C T (set noted y 0) L (set C (2 * y) (get_or noted y 0)) x
           apart x k q = record { cells_same = λ t l. refl; noted_same = noted_cleared 0 x q; lists_same = record { raised_count = other (2 * x) (λ r. q (omega arith)); line_count = other (2 * x + 1) (λ r. omega arith); entries = λ i a b. refl; as_long = refl } }
 
-          own : Done w S T₀ T (set noted y 0) L (set C (2 * y) (get_or noted y 0)) changed y
-          own = quiet T (set noted y 0) L (set C (2 * y) (get_or noted y 0)) changed y inside (sym was.noted_same ∙ e) (get_or-set_same noted y 0 0 room.0) (get_or-set_same C (2 * y) (get_or noted y 0) 0 (omega (arith, room.1)) ∙ e) (omega (arith, row_fits y inside, sofar.lists_long)) was.cells_same (rw (other (2 * y + 1) (λ r. omega arith)) own_lines)
+          own : Done w horizon S T₀ T (set noted y 0) L (set C (2 * y) (get_or noted y 0)) changed over y
+          own = quiet T (set noted y 0) L (set C (2 * y) (get_or noted y 0)) changed over y inside (sym was.noted_same ∙ e) (get_or-set_same noted y 0 0 room.0) (get_or-set_same C (2 * y) (get_or noted y 0) 0 (omega (arith, room.1)) ∙ e) (omega (arith, row_fits y inside, sofar.lists_long)) was.cells_same (rw (other (2 * y + 1) (λ r. omega arith)) own_lines)
 
       -- its notes copied
-      pub settled_copied : (T' L' : List ℕ) (known b : ℕ) → (get_or noted y 0 ≡ 0 → ⊥) → AfterPoint w S T T' L L' (get_or noted y 0) y known → length T' ≡ length T → length L' ≡ length L → b ≡ 2 ^ y
-          → SettledTo n w S T₀ noted₀ L₀ C₀ T' (set noted y 0) L' (set (set C (2 * y) (get_or noted y 0)) (2 * y + 1) known) rest (bit_or changed b)
-      settled_copied T' L' known b some after lt ll e = settled_more T' (set noted y 0) L' C' (bit_or changed b) apart own (union_below n changed b sofar.changed_below (rw e (bit_below n y inside))) (λ x k. in_left changed b x k) differs past lt (simp length-set) ll (simp length-set)
+      settled_copied : (T' L' : List ℕ) (known : ℕ) (over' : Bool) → (get_or noted y 0 ≡ 0 → ⊥) → AfterPoint w S T T' L L' (get_or noted y 0) y known → length T' ≡ length T → length L' ≡ length L → NoneAbove horizon S L' (y * w) (2 * y * w) (get_or noted y 0) over' → (over' ≡ false → over ≡ false)
+          → SettledTo n w horizon S T₀ noted₀ L₀ C₀ T' (set noted y 0) L' (set (set C (2 * y) (get_or noted y 0)) (2 * y + 1) known) rest (bit_or changed (2 ^ y)) over'
+      settled_copied T' L' known over' some after lt ll low back = settled_more T' (set noted y 0) L' C' (bit_or changed (2 ^ y)) over' apart own (union_below n changed (2 ^ y) sofar.changed_below (bit_below n y inside)) (λ x k. in_left changed (2 ^ y) x k) back differs past lt (simp length-set) ll (simp length-set)
         where
           C' : List ℕ
           C' = set (set C (2 * y) (get_or noted y 0)) (2 * y + 1) known
@@ -280,14 +303,15 @@ module _ (n w : ℕ) (S T₀ N noted₀ L₀ C₀ : List ℕ) (all : ℕ) (lent 
           second_is : get_or C' (2 * y + 1) 0 ≡ known
           second_is = second_written C y (get_or noted y 0) known room.1
 
-          own : Done w S T₀ T' (set noted y 0) L' C' (bit_or changed b) y
+          own : Done w horizon S T₀ T' (set noted y 0) L' C' (bit_or changed (2 ^ y)) over' y
           own = record {
             cells_are = after.cells_are;
             no_notes = get_or-set_same noted y 0 0 room.0;
             lists_are = lists_of w S L' C' y (get_or noted y 0) known first_is second_is after.raised_are (lines_kept w T' S L' L' (y * w) ((2 * y + 1) * w) known after.lines_are (same_lines w T' S (y * w) (λ t l. sym (after.cells_are t l))) after.lines_are.places.long (λ i l. refl));
             raised_few = omega (arith, few, first_is);
             all_raised = λ t l d. rw first_is (after.all_raised t l (λ q. d (q ∙ was.cells_same t l)));
-            raised_in = λ l. in_right changed b y (rw e (own_bit y));
+            raised_in = λ l. in_right changed (2 ^ y) y (own_bit y);
+            low = rw first_is low;
           }
 
           own_differs : (t : ℕ) × (t < w) × (get_or T₀ (y * w + t) 0 < get_or S (y * w + t) 0)
@@ -296,19 +320,28 @@ module _ (n w : ℕ) (S T₀ N noted₀ L₀ C₀ : List ℕ) (all : ℕ) (lent 
               let first : 0 < get_or noted₀ y 0 = omega (arith, was.noted_same) in
               (get_or N (y * w + 0) 0, p.within 0 first, p.higher 0 first)
 
-          differs : (x : ℕ) → x < n → In (bit_or changed b) x → (t : ℕ) × (t < w) × (get_or T₀ (x * w + t) 0 < get_or S (x * w + t) 0)
-          differs x j l = go (in_either changed b x l)
+          differs : (x : ℕ) → x < n → In (bit_or changed (2 ^ y)) x → (t : ℕ) × (t < w) × (get_or T₀ (x * w + t) 0 < get_or S (x * w + t) 0)
+          differs x j l = go (in_either changed (2 ^ y) x l)
             where
-              go : In changed x ⊎ In b x → (t : ℕ) × (t < w) × (get_or T₀ (x * w + t) 0 < get_or S (x * w + t) 0)
+              go : In changed x ⊎ In (2 ^ y) x → (t : ℕ) × (t < w) × (get_or T₀ (x * w + t) 0 < get_or S (x * w + t) 0)
               go (inl a) = sofar.differs x j a
-              go (inr a) = rw (only_own y x (rw e at a)) own_differs
+              go (inr a) = rw (only_own y x a) own_differs
 
           past : (c : ℕ) → n * w ≤ c → get_or T' c 0 ≡ get_or T c 0
           past c l = after.past_same c (omega (arith, row_within y n w inside))
 
+  -- a pass for point y that has changed
+  module _ (T noted L C : List ℕ) (left : ℕ) (was : Settled) (sofar : SettledTo n w horizon S T₀ noted₀ L₀ C₀ T noted L C left was.changed was.over) (lined : LinedIn n C was.lined) (y : ℕ) (h : In left y) (rest : ℕ) (rest-is : rest ≡ remove left y) (less : rest < left) where
+    pub settled_changed : (T' L' C' : List ℕ) (made : Settled) → (get_or noted y 0 ≡ 0 → ⊥) → AfterChanged w horizon S T T' L L' (set C (2 * y) (get_or noted y 0)) C' (get_or noted y 0) y was made → length T' ≡ length T → length L' ≡ length L
+        → SettledTo n w horizon S T₀ noted₀ L₀ C₀ T' (set noted y 0) L' C' rest made.changed made.over × LinedIn n C' made.lined
+    settled_changed T' L' C' made some a lt ll = rw (a.counts_are, a.changed_is) (
+      settled_copied T noted L C left was.changed was.over sofar y h rest rest-is less T' L' a.lines made.over some a.point_is lt ll a.none_above a.not_before,
+      lined_copied n C was.lined y (get_or noted y 0) a.lines made.lined (inside T noted L C left was.changed was.over sofar y h) (room T noted L C left was.changed was.over sofar y h).1 lined a.lined_with,
+    )
+
   -- ---- no point is left
-  module _ (T noted L C : List ℕ) (left changed : ℕ) (none_left : left ≡ 0) (sofar : SettledTo n w S T₀ noted₀ L₀ C₀ T noted L C left changed) where
-    all_done : (x : ℕ) → x < n → Done w S T₀ T noted L C changed x
+  module _ (T noted L C : List ℕ) (left changed : ℕ) (over : Bool) (none_left : left ≡ 0) (sofar : SettledTo n w horizon S T₀ noted₀ L₀ C₀ T noted L C left changed over) where
+    all_done : (x : ℕ) → x < n → Done w horizon S T₀ T noted L C changed over x
     all_done x h = sofar.done x h (λ k. none_in x (rw none_left at k))
 
     target_is : T ≡ laid_over (n * w) S T₀
@@ -321,3 +354,6 @@ module _ (n w : ℕ) (S T₀ N noted₀ L₀ C₀ : List ℕ) (all : ℕ) (lent 
       lists_are = λ x h. (all_done x h).lists_are;
       raised_from = record { below = sofar.changed_below; all_raised = λ x t h. (all_done x h).all_raised t; raised_in = λ x h. (all_done x h).raised_in; differs = sofar.differs };
     }
+
+    pub none_raised_above : NoneRaisedAbove n w horizon S L C changed over
+    none_raised_above = record { none = λ e x t h k r. rw r.is at ((all_done x h).low.none e r.at r.below) }

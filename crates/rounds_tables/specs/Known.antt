@@ -3,7 +3,6 @@ use Rattle.std.specs.Prelude.{◌≡◌, Bool, false, List, ℕ, ◌+◌, ◌*�
 use Rattle.plan.specs.Plan.{Plan}
 use Rattle.rules_fill.specs.Shapes.{is_line}
 use Rattle.rules_fill.specs.Parts.{laid_over}
-use Rattle.rules_listed.specs.Places.{Places}
 use Rattle.rules_listed.specs.Notes.{Noted}
 use Rattle.rules_refill.specs.Lists.{Raised, PointLists, Lists}
 use Rattle.rules_refill.specs.Lent.{NoneOver}
@@ -50,26 +49,10 @@ pub record LinedIn (n : ℕ) (counts : List ℕ) (lined : ℕ) : Type 0 where
   pub below : lined < 2 ^ n
   pub has : (y : ℕ) → y < n → 1 < get_or counts (2 * y + 1) 0 → In lined y
 
--- but for changed points, they were
-pub record LinedBut (n : ℕ) (counts : List ℕ) (changed lined : ℕ) : Type 0 where
-  pub few : n ≤ 32
-  pub counts_long : 2 * n ≤ length counts
-  pub changed_below : changed < 2 ^ n
-  pub lined_below : lined < 2 ^ n
-  pub has : (y : ℕ) → y < n → (In changed y → ⊥) → 1 < get_or counts (2 * y + 1) 0 → In lined y
-
 -- the points with raised places are in the set
 pub record ChangedIn (n : ℕ) (counts : List ℕ) (changed : ℕ) : Type 0 where
   pub below : changed < 2 ^ n
   pub has : (y : ℕ) → y < n → 0 < get_or counts (2 * y) 0 → In changed y
-
--- the raised places of changed points, in a table that has their cells
-pub record OverLent (n w : ℕ) (table lists counts : List ℕ) (changed : ℕ) : Type 0 where
-  pub few : n ≤ 32
-  pub below : changed < 2 ^ n
-  pub long : n * w ≤ length table
-  pub counts_long : 2 * n ≤ length counts
-  pub places : (y : ℕ) → y < n → Places lists (2 * y * w) (get_or counts (2 * y) 0) w
 
 -- unless `over` holds, none of k listed cells from base on is above the horizon
 pub record NoneAbove (horizon : ℕ) (table lists : List ℕ) (base start k : ℕ) (over : Bool) : Type 0 where

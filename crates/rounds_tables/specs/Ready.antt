@@ -1,5 +1,5 @@
 -- For inner contracts only: what the functions that make a round are lent. Nothing here is to be believed.
-use Rattle.std.specs.Prelude.{◌≡◌, Bool, List, ◌⊎◌, ℕ, ◌+◌, ◌*◌, ◌≤◌, ◌<◌, ◌^◌, length, get_or, take}
+use Rattle.std.specs.Prelude.{◌≡◌, Bool, List, ℕ, ◌+◌, ◌*◌, ◌≤◌, ◌<◌, ◌^◌, length, get_or, take}
 use Rattle.plan.specs.Label.{Marks}
 use Rattle.plan.specs.Plan.{Plan, cells}
 use Rattle.plan.specs.Layout.{plan_of}
@@ -9,7 +9,8 @@ use Rattle.rules.specs.Tables.{next}
 use Rattle.rules_fill.specs.Parts.{part, AtMost}
 use Rattle.rules_fill.specs.Filling.{FillNumbers}
 use Rattle.rules_rows.specs.RowsRead.{RowsRead}
-use Rattle.rules_refill.specs.Lists.{Lists}
+use Rattle.rules_listed.specs.Places.{Places}
+use Rattle.rules_refill.specs.Lists.{Lined, Lists}
 use Rattle.rules_refill.specs.Lent.{NoneOver}
 use Rattle.rounds_points.specs.PointSets.{In}
 
@@ -46,10 +47,16 @@ pub record RoundLent (plan marks : List ℕ) (horizon : ℕ) (first second lists
   pub unaffected : Unaffected (plan_with plan horizon) (take (cells (plan_of plan)) first) set
 
 -- ---- for the comparison of two tables, w cells for each of n points
--- outside the set of points they have the same cells
-pub record SameOutside (n w : ℕ) (A B : List ℕ) (set : ℕ) : Type 0 where
-  pub cell : (y t : ℕ) → y < n → t < w → (In set y → ⊥) → get_or A (y * w + t) 0 ≡ get_or B (y * w + t) 0
+-- the places of lines are listed, and cells other than those of the listed lines of the points of the set are the same in both
+pub record CompareLent (n w : ℕ) (A B lists counts : List ℕ) (set : ℕ) : Type 0 where
+  pub few : n ≤ 32
+  pub long_first : n * w ≤ length A
+  pub long_second : n * w ≤ length B
+  pub counts_long : 2 * n ≤ length counts
+  pub places : (y : ℕ) → y < n → Places lists ((2 * y + 1) * w) (get_or counts (2 * y + 1) 0) w
+  pub others_same : (y t : ℕ) → y < n → t < w → (In set y → Lined w lists counts y t → ⊥) → get_or A (y * w + t) 0 ≡ get_or B (y * w + t) 0
 
--- k cells of point x are compared: all w, or none of a point outside the set
-pub record Compared (set x w k : ℕ) : Type 0 where
-  pub all_or_none : (k ≡ w) ⊎ ((k ≡ 0) × (In set x → ⊥))
+-- k lines of point x are compared: all, or none of a point outside the set
+pub record Compared (counts : List ℕ) (set x k : ℕ) : Type 0 where
+  pub most : k ≤ get_or counts (2 * x + 1) 0
+  pub all : In set x → k ≡ get_or counts (2 * x + 1) 0

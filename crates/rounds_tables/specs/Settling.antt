@@ -1,8 +1,12 @@
 -- For inner contracts only: the copy of one noted cell, and of those of one point. Nothing here is to be believed.
-use Rattle.std.specs.Prelude.{◌≡◌, List, ℕ, ◌+◌, ◌*◌, ◌^◌, ◌≤◌, ◌<◌, T as Is, length, get_or, set, drop}
+use Rattle.std.specs.Prelude.{◌≡◌, false, List, ℕ, ◌+◌, ◌*◌, ◌^◌, ◌≤◌, ◌<◌, T as Is, length, get_or, set, drop}
+use Rattle.std.specs.Int.Bits.{bit_or}
 use Rattle.rules_fill.specs.Shapes.{is_line}
 use Rattle.rules_listed.specs.Places.{Listed, Places, count_below}
 use Rattle.rules_listed.specs.Notes.{Noted}
+use Rattle.rounds_points.specs.PointSets.{In}
+use Rattle.rounds_tables.specs.declared.settling.Settled.{Settled}
+use Rattle.rounds_tables.specs.Known.{NoneAbove}
 
 -- the lines of the w cells from base on are the `known` places that are listed from entry `at` on
 pub record LinesAt (w : ℕ) (table lists : List ℕ) (base at known : ℕ) : Type 0 where
@@ -48,6 +52,26 @@ pub record AfterPoint (w : ℕ) (source target target' lists lists' : List ℕ) 
   -- the lists of other points stay
   pub lists_before : (c : ℕ) → c < 2 * y * w → get_or lists' c 0 ≡ get_or lists c 0
   pub lists_past : (c : ℕ) → (2 * y + 1) * w + w ≤ c → get_or lists' c 0 ≡ get_or lists c 0
+
+-- a set of points, with point y where it has a line beside the starting line
+pub record LinedWith (lined y lines : ℕ) (r : ℕ) : Type 0 where
+  pub below : (n : ℕ) → y < n → lined < 2 ^ n → r < 2 ^ n
+  pub keeps : (x : ℕ) → In lined x → In r x
+  pub has : 1 < lines → In r y
+
+-- a changed point y, its n notes copied, and what that adds to what the round changed
+pub record ChangedLent (w : ℕ) (source target notes : List ℕ) (n : ℕ) (lists counts : List ℕ) (y : ℕ) : Type 0 where
+  pub counts_long : 2 * y + 1 < length counts
+  pub lent : PointLent w source target notes n lists (get_or counts (2 * y + 1) 0) y
+
+pub record AfterChanged (w horizon : ℕ) (source target target' lists lists' counts counts' : List ℕ) (n y : ℕ) (sofar made : Settled) : Type 0 where
+  pub lines : ℕ
+  pub point_is : AfterPoint w source target target' lists lists' n y lines
+  pub counts_are : counts' ≡ set counts (2 * y + 1) lines
+  pub changed_is : made.changed ≡ bit_or sofar.changed (2 ^ y)
+  pub lined_with : LinedWith sofar.lined y lines made.lined
+  pub none_above : NoneAbove horizon source lists' (y * w) (2 * y * w) n made.over
+  pub not_before : made.over ≡ false → sofar.over ≡ false
 
 -- the lines of point y are listed twice, as raised places and as lines
 pub record LinesLent (w : ℕ) (table lists : List ℕ) (y : ℕ) : Type 0 where

@@ -3,33 +3,43 @@ ghost use Rattle.std.specs.Prelude.{◌≡◌, ◌+◌, ◌*◌, ◌≤◌, ◌<
 ghost use Rattle.plan.specs.Moments.{SameLength};
 ghost use Rattle.rules_fill.specs.Parts.{laid_over};
 ghost use Rattle.rounds_tables.specs.Cells.{same, any_above};
-ghost use Rattle.rounds_tables.specs.Ready.{SameOutside, Compared};
+ghost use Rattle.rounds_tables.specs.Ready.{CompareLent, Compared};
 
+use plan::widen_word;
 use rounds_points::has;
 
-// How many cells of point x are to be compared: none where it is outside the set.
-fn to_compare(set: usize, x: usize, width: usize) -> usize
-    requires { x < 32 }
-    ensures { Compared set x width result }
+// How many lines of point x are to be compared: none where it is outside the set.
+fn to_compare(counts: &[usize], set: usize, x: usize) -> usize
+    requires { (x < 32) × (2 * x + 1 < length counts.now) }
+    ensures { Compared counts.now set x result }
 {
     if has(set, x) {
-        return width;
+        return counts[2 * x + 1];
     }
     0
 }
 
-// Whether the first cells of two tables agree, point by point up to the first cell that differs. Outside the set of points they do.
-pub fn same_cells(first: &[u32], second: &[u32], points: usize, width: usize, set: usize) -> bool
-    requires points_bound { (points ≤ 32) × (points * width ≤ length first.now) × (points * width ≤ length second.now) }
-    requires same_outside { SameOutside points width first.now second.now set }
+// Whether the first cells of two tables agree: of the points of a set the listed lines, up to the first cell that differs. The other cells do.
+pub fn same_cells(
+    first: &[u32],
+    second: &[u32],
+    lists: &[u16],
+    counts: &[usize],
+    points: usize,
+    width: usize,
+    set: usize,
+) -> bool
+    requires { CompareLent points width first.now second.now lists.now counts.now set }
     ensures { result ≡ same (take (points * width) first.now) (take (points * width) second.now) }
 {
     let mut agree = true;
     'walk: for x in 0..points {
-        let start = x * width;
-        let end = to_compare(set, x, width);
-        for t in 0..end {
-            if first[start + t] != second[start + t] {
+        let base = x * width;
+        let start = (2 * x + 1) * width;
+        let end = to_compare(counts, set, x);
+        for i in 0..end {
+            let c = base + widen_word(lists[start + i]);
+            if first[c] != second[c] {
                 agree = false;
                 break 'walk;
             }

@@ -10,5 +10,5 @@ mod settling;
 pub use cells::{clear_cells, first_alarm_waits, same_cells};
 pub use lines::list_lines;
 pub use logging::log_round;
-pub use making::{next_round, round};
-pub use settling::{lined_after, over_horizon, settle};
+pub use making::next_round;
+pub use settling::{Settled, settle};

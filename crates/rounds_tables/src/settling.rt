@@ -1,9 +1,9 @@
 // After a round: its raised cells into the other table, and into the lists that the next round goes by.
-ghost use Rattle.std.specs.Prelude.{◌+◌, ◌≤◌, length};
+ghost use Rattle.std.specs.Prelude.{◌+◌, ◌≤◌, ◌<◌, length};
 ghost use Rattle.plan.specs.Moments.{SameLength};
 ghost use Rattle.rules_listed.specs.Places.{Places};
-ghost use Rattle.rounds_tables.specs.Known.{SettleLent, AfterSettle, LinedBut, LinedIn, OverLent, NoneAbove, NoneRaisedAbove};
-ghost use Rattle.rounds_tables.specs.Settling.{CellLent, AfterCell, PointLent, AfterPoint};
+ghost use Rattle.rounds_tables.specs.Known.{SettleLent, AfterSettle, LinedIn, NoneAbove, NoneRaisedAbove};
+ghost use Rattle.rounds_tables.specs.Settling.{CellLent, AfterCell, PointLent, AfterPoint, LinedWith, ChangedLent, AfterChanged};
 
 use plan::{cell_at, widen_word};
 use rounds_points::{bit, lowest, without};
@@ -73,64 +73,6 @@ fn settle_point(
     lined
 }
 
-// The noted cells of the points of a set, which has all points with notes or raised places. Gives the set of the points that have notes; then none has.
-pub fn settle(
-    source: &[u32],
-    target: &mut [u32],
-    notes: &[u16],
-    noted: &mut [usize],
-    lists: &mut [u16],
-    counts: &mut [usize],
-    points: usize,
-    width: usize,
-    set: usize,
-) -> usize
-    requires { SettleLent points width source.now target.old notes.now noted.old lists.old counts.old set }
-    ensures after_settle { AfterSettle points width source.now target.old target.new noted.new lists.new counts.new result }
-    ensures same_length { SameLength target × SameLength noted × SameLength lists × SameLength counts }
-{
-    let mut left = set;
-    let mut changed = 0;
-    while left != 0 {
-        let y = lowest(left);
-        left = without(left, y);
-        let n = noted[y];
-        noted[y] = 0;
-        counts[2 * y] = n;
-        if n != 0 {
-            counts[2 * y + 1] = settle_point(
-                source,
-                target,
-                notes,
-                n,
-                lists,
-                counts[2 * y + 1],
-                width,
-                y,
-            );
-            changed = changed | bit(y);
-        }
-    }
-    changed
-}
-
-// The points with a line beside the starting line: those that had one, and changed points that have one.
-pub fn lined_after(counts: &[usize], points: usize, changed: usize, lined: usize) -> usize
-    requires { LinedBut points counts.now changed lined }
-    ensures { LinedIn points counts.now result }
-{
-    let mut left = changed;
-    let mut found = lined;
-    while left != 0 {
-        let y = lowest(left);
-        left = without(left, y);
-        if 1 < counts[2 * y + 1] {
-            found = found | bit(y);
-        }
-    }
-    found
-}
-
 // Whether one of n listed cells of a point waits longer than the horizon.
 fn any_over(
     table: &[u32],
@@ -153,34 +95,93 @@ fn any_over(
     false
 }
 
-// Whether a raised cell of one of the changed points waits longer than the horizon.
-pub fn over_horizon(
-    table: &[u32],
-    lists: &[u16],
-    counts: &[usize],
+// The points with a line beside the starting line, and point y if it has one.
+fn with_lined(lined: usize, y: usize, lines: usize) -> usize
+    requires { y < 32 }
+    ensures { LinedWith lined y lines result }
+{
+    if 1 < lines {
+        return lined | bit(y);
+    }
+    lined
+}
+
+// What a round changed: the points with raised cells, those with a line beside the starting line, and whether a raised cell is over the horizon.
+#[derive(Clone, Copy)]
+pub struct Settled {
+    pub changed: usize,
+    pub lined: usize,
+    pub over: bool,
+}
+
+// The n noted cells of point y, which has changed by them: what the round changed so far, with this point.
+fn settle_changed(
+    source: &[u32],
+    target: &mut [u32],
+    notes: &[u16],
+    n: usize,
+    lists: &mut [u16],
+    counts: &mut [usize],
+    width: usize,
+    horizon: u64,
+    y: usize,
+    sofar: Settled,
+) -> Settled
+    requires { ChangedLent width source.now target.old notes.now n lists.old counts.old y }
+    ensures after_changed { AfterChanged width horizon source.now target.old target.new lists.old lists.new counts.old counts.new n y sofar result }
+    ensures same_length { SameLength target × SameLength lists × SameLength counts }
+{
+    let line = 2 * y + 1;
+    let lines = settle_point(source, target, notes, n, lists, counts[line], width, y);
+    counts[line] = lines;
+    let mut over = sofar.over;
+    if any_over(source, lists, y * width, 2 * y * width, n, width, horizon) {
+        over = true;
+    }
+    Settled {
+        changed: sofar.changed | bit(y),
+        lined: with_lined(sofar.lined, y, lines),
+        over: over,
+    }
+}
+
+// The noted cells of the points of a set, which has all points with notes or raised places; `lined` has those with a line beside the starting line before.
+pub fn settle(
+    source: &[u32],
+    target: &mut [u32],
+    notes: &[u16],
+    noted: &mut [usize],
+    lists: &mut [u16],
+    counts: &mut [usize],
     points: usize,
     width: usize,
-    changed: usize,
+    set: usize,
+    lined: usize,
     horizon: u64,
-) -> bool
-    requires { OverLent points width table.now lists.now counts.now changed }
-    ensures { NoneRaisedAbove points width horizon table.now lists.now counts.now changed result }
+) -> Settled
+    requires settle_lent { SettleLent points width source.now target.old notes.now noted.old lists.old counts.old set }
+    requires lined_in { LinedIn points counts.old lined }
+    ensures after_settle { AfterSettle points width source.now target.old target.new noted.new lists.new counts.new result.changed }
+    ensures lined_in_2 { LinedIn points counts.new result.lined × NoneRaisedAbove points width horizon source.now lists.new counts.new result.changed result.over }
+    ensures same_length { SameLength target × SameLength noted × SameLength lists × SameLength counts }
 {
-    let mut left = changed;
+    let mut left = set;
+    let mut made = Settled {
+        changed: 0,
+        lined: lined,
+        over: false,
+    };
     while left != 0 {
         let y = lowest(left);
         left = without(left, y);
-        if any_over(
-            table,
-            lists,
-            y * width,
-            2 * y * width,
-            counts[2 * y],
-            width,
-            horizon,
-        ) {
-            return true;
+        let n = noted[y];
+        noted[y] = 0;
+        counts[2 * y] = n;
+        if n != 0 {
+            made = settle_changed(
+                source, target, notes, n, lists, counts, width, horizon, y, made,
+            );
         }
     }
-    false
+    made
 }

@@ -1,9 +1,9 @@
--- The loop's invariant: the points that are left are as they were, and the others are done.
+-- The loop's invariant: the points that are left are as they were, the others are done, and each point with a line beside the starting line is in the set.
 use Prim.Native.Nat.{◌+◌, ◌*◌, ◌<◌}
 use native.Mathlib.Omega.{arith}
-use lib.ListN.{length, length-set}
+use lib.ListN.{length}
 use Rattle.rounds_tables.proofs.Walking.{left_few}
-use Rattle.rounds_tables.proofs.SettleLaws.{settled_none, room, point_lent, settled_quiet, settled_copied, all_settled}
+use Rattle.rounds_tables.proofs.SettleLaws.{settled_none, room, changed_lent, settled_quiet, settled_changed, lined_quiet, all_settled, none_raised_above}
 use Rattle.rounds_tables.proofs.settling.settle.Goals.{After-lowest-y}
 use Rattle.rounds_tables.proofs.settling.settle.Goals as goal
 
@@ -13,13 +13,13 @@ Place c = (c.lowest-y.result < length c.loop-left.noted) × (2 * c.lowest-y.resu
 
 place : (c : After-lowest-y) → Place c
 place c =
-    room _ _ _ _ _ _ _ _ _ c.requires _ _ _ _ _ _ c.loop-left.invariant c.lowest-y.result c.lowest-y.ensures.0
+    room _ _ _ _ _ _ _ _ _ _ c.requires.settle_lent _ _ _ _ _ _ _ c.loop-left.invariant.0 c.lowest-y.result c.lowest-y.ensures.0
 
 pub loop-left-init : goal.loop-left-init
-loop-left-init c = settled_none _ _ _ _ _ _ _ _ _ c.requires
+loop-left-init c = (settled_none _ _ _ _ _ _ _ _ _ _ c.requires.settle_lent, c.requires.lined_in)
 
 pub lowest-y-requires : goal.lowest-y-requires
-lowest-y-requires c = (omega arith, left_few _ _ c.requires.few c.loop-left.invariant.left_below)
+lowest-y-requires c = (omega arith, left_few _ _ c.requires.settle_lent.few c.loop-left.invariant.0.left_below)
 
 pub without-left-requires : goal.without-left-requires
 without-left-requires c = c.lowest-y.ensures
@@ -45,60 +45,34 @@ offset_bounds-counts-y c = omega (arith, c.lowest-y.ensures.1)
 pub bounds-counts-y : goal.bounds-counts-y
 bounds-counts-y c = omega (arith, (place (goal.at.bounds-counts-y c).After-lowest-y).1)
 
-pub overflow_mul-y : goal.overflow_mul-y
-overflow_mul-y c = omega (arith, c.lowest-y.ensures.1)
-
-pub overflow_add-y : goal.overflow_add-y
-overflow_add-y c = omega (arith, c.lowest-y.ensures.1)
-
-pub offset_bounds-counts-y-then-n-ne0 : goal.offset_bounds-counts-y-then-n-ne0
-offset_bounds-counts-y-then-n-ne0 c = omega (arith, c.lowest-y.ensures.1)
-
-pub bounds-counts-y-then-n-ne0 : goal.bounds-counts-y-then-n-ne0
-bounds-counts-y-then-n-ne0 c = simp length-set (place (goal.at.bounds-counts-y-then-n-ne0 c).After-lowest-y).1
-
-pub settle_point-requires : goal.settle_point-requires
-settle_point-requires c = point_lent _ _ _ _ _ _ _ _ _ c.requires _ _ _ _ _ _ c.loop-left.invariant c.lowest-y.result c.lowest-y.ensures.0
-
-pub overflow_mul-counts-then-n-ne0 : goal.overflow_mul-counts-then-n-ne0
-overflow_mul-counts-then-n-ne0 c = omega (arith, c.lowest-y.ensures.1)
-
-pub overflow_add-counts : goal.overflow_add-counts
-overflow_add-counts c = omega (arith, c.lowest-y.ensures.1)
-
-pub offset_bounds-counts-y-then-n-ne0-2 : goal.offset_bounds-counts-y-then-n-ne0-2
-offset_bounds-counts-y-then-n-ne0-2 c = omega (arith, c.lowest-y.ensures.1)
-
-pub bounds-counts-y-then-n-ne0-2 : goal.bounds-counts-y-then-n-ne0-2
-bounds-counts-y-then-n-ne0-2 c = simp length-set (place (goal.at.bounds-counts-y-then-n-ne0-2 c).After-lowest-y).1
-
-pub bit-changed-requires : goal.bit-changed-requires
-bit-changed-requires c = c.lowest-y.ensures.1
+pub settle_changed-made-requires : goal.settle_changed-made-requires
+settle_changed-made-requires c = changed_lent _ _ _ _ _ _ _ _ _ _ c.requires.settle_lent _ _ _ _ _ _ _ c.loop-left.invariant.0 c.lowest-y.result c.lowest-y.ensures.0
 
 pub loop-left-smaller-then-n-ne0 : goal.loop-left-smaller-then-n-ne0
 loop-left-smaller-then-n-ne0 c = c.without-left.ensures.1
 
 pub loop-left-preserved-then-n-ne0 : goal.loop-left-preserved-then-n-ne0
-loop-left-preserved-then-n-ne0 c = settled_copied _ _ _ _ _ _ _ _ _ c.requires _ _ _ _ _ _ c.loop-left.invariant c.lowest-y.result c.lowest-y.ensures.0 _ c.without-left.ensures.0 c.without-left.ensures.1 _ _ _ _ c.if-n-ne0.true c.settle_point.ensures.after_point c.settle_point.ensures.same_length.0 c.settle_point.ensures.same_length.1 c.bit-changed.ensures
+loop-left-preserved-then-n-ne0 c = settled_changed _ _ _ _ _ _ _ _ _ _ c.requires.settle_lent _ _ _ _ _ _ c.loop-left.invariant.0 c.loop-left.invariant.1 c.lowest-y.result c.lowest-y.ensures.0 _ c.without-left.ensures.0 c.without-left.ensures.1 _ _ _ _ c.if-n-ne0.true c.settle_changed-made.ensures.after_changed c.settle_changed-made.ensures.same_length.0 c.settle_changed-made.ensures.same_length.1
 
 pub loop-left-smaller : goal.loop-left-smaller
 loop-left-smaller c = c.without-left.ensures.1
 
 pub loop-left-preserved : goal.loop-left-preserved
-loop-left-preserved c = settled_quiet _ _ _ _ _ _ _ _ _ c.requires _ _ _ _ _ _ c.loop-left.invariant c.lowest-y.result c.lowest-y.ensures.0 _ c.without-left.ensures.0 c.without-left.ensures.1 c.if-n-ne0.false
+loop-left-preserved c = (settled_quiet _ _ _ _ _ _ _ _ _ _ c.requires.settle_lent _ _ _ _ _ _ _ c.loop-left.invariant.0 c.lowest-y.result c.lowest-y.ensures.0 _ c.without-left.ensures.0 c.without-left.ensures.1 c.if-n-ne0.false, lined_quiet _ _ _ _ _ c.loop-left.invariant.1)
 
 pub shape_of-target : goal.shape_of-target
-shape_of-target c = c.loop-left.invariant.target_long
+shape_of-target c = c.loop-left.invariant.0.target_long
 
 pub shape_of-noted : goal.shape_of-noted
-shape_of-noted c = c.loop-left.invariant.noted_long
+shape_of-noted c = c.loop-left.invariant.0.noted_long
 
 pub shape_of-lists : goal.shape_of-lists
-shape_of-lists c = c.loop-left.invariant.lists_long
+shape_of-lists c = c.loop-left.invariant.0.lists_long
 
 pub shape_of-counts : goal.shape_of-counts
-shape_of-counts c = c.loop-left.invariant.counts_long
+shape_of-counts c = c.loop-left.invariant.0.counts_long
 
 pub returns : goal.returns
 returns c = let i = c.loop-left.invariant in
-    record { after_settle = all_settled _ _ _ _ _ _ _ _ _ c.requires _ _ _ _ _ _ (omega arith) i; same_length = (i.target_long, i.noted_long, i.lists_long, i.counts_long) }
+    let p = c.requires.settle_lent in
+    record { after_settle = all_settled _ _ _ _ _ _ _ _ _ _ p _ _ _ _ _ _ _ (omega arith) i.0; lined_in_2 = (i.1, none_raised_above _ _ _ _ _ _ _ _ _ _ p _ _ _ _ _ _ _ (omega arith) i.0); same_length = (i.0.target_long, i.0.noted_long, i.0.lists_long, i.0.counts_long) }
