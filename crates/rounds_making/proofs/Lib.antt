@@ -3,5 +3,6 @@ pub mod TableLengths
 pub mod RoundsMade
 mod OneRound
 mod RoundByRound
+mod LogByRound
 mod ZeroLists
 mod ListSizes

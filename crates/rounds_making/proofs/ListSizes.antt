@@ -1,6 +1,6 @@
 -- The lists before the first round: arrays of zeros and ones that are large enough for the plan are all that is asked, whatever their size.
-use mathlib.Core.Path.{◌≡◌, refl, sym, ap, ◌∙◌}
-use mathlib.Core.Bool.{Bool, true, false, not}
+use mathlib.Core.Path.{◌≡◌, sym, ap, ◌∙◌}
+use mathlib.Core.Bool.{Bool, true}
 use mathlib.Core.List.{List}
 use Prim.Native.Nat.{ℕ, ◌+◌, ◌-◌, ◌*◌, ◌%◌, ◌^◌, ◌≤◌, ◌<◌}
 use native.Mathlib.Nat.{one-le-mul, mul_assoc}
@@ -9,7 +9,7 @@ use native.Mathlib.Omega.{arith}
 use lib.ListN.{length, get_or, take, replicate, length-replicate, get_or-replicate, get_or-eq_default}
 use lib.Seq.{get_or-take}
 use lib.Pow.{pow_pos}
-use Rattle.plan.specs.Plan.{width, cells}
+use Rattle.plan.specs.Plan.{Plan, width, cells}
 use Rattle.plan.specs.Layout.{plan_of}
 use Rattle.plan.specs.Horizons.{plan_with}
 use Rattle.plan.specs.Refusal.{Accepted}
@@ -19,7 +19,7 @@ use Rattle.plan.proofs.Widths.{shift}
 use Rattle.rounds_points.proofs.PointSets.{all_below, in_all}
 use Rattle.rounds_tables.specs.Ready.{Ready}
 use Rattle.rounds_tables.specs.Known.{AllListed}
-use Rattle.rounds_making.specs.Making.{ListsLent, FirstLent, FirstLists}
+use Rattle.rounds_making.specs.Making.{ListsLent, ListRoom, FirstLent, FirstLists}
 use Rattle.rounds_making.specs.Runs.{RoomFrom, RunLent}
 use Rattle.rounds_making.proofs.ZeroLists.{zeros_listed}
 use Rattle.rounds_making.proofs.RoundByRound.{first_lent}
@@ -68,34 +68,35 @@ zeros_at m c = go (dec_lt c m)
     go (yes h) = get_or-replicate m c 0 0 h
     go (no h) = get_or-eq_default (entries m 0) 0 {n = c} (rw (entries_length m 0) (omega arith))
 
--- ---- lists of m places, which is 2 k, with k notes and 64 counts, for a plan of at most k cells
-module _ (bs M : List ℕ) (h : ℕ) (F G : List ℕ) (z : Bool) (lent : RunLent bs M h F G z) (k m : ℕ) (few-cells : cells (plan_of bs) ≤ k) (double : m ≡ 2 * k) where
+-- lists of m places, which is 2 k, and k notes have room for a plan of at most k cells
+pub list_room : (P : Plan) (k m : ℕ) → cells P ≤ k → m ≡ 2 * k → ListRoom P (entries m 0) (entries k 0)
+list_room P k m few double = record {
+  lists_long = rw (entries_length m 0) (omega (arith, mul_assoc 2 P.points (width P), few));
+  notes_long = rw (entries_length k 0) few;
+  places_none = zeros_at m;
+}
+
+-- ---- with that room, and 64 counts
+module _ (bs M : List ℕ) (h : ℕ) (F G : List ℕ) (z : Bool) (lent : RunLent bs M h F G z) (L N : List ℕ) (room : ListRoom (plan_of bs) L N) where
   cells_none : z ≡ true → (c : ℕ) → c < cells (plan_of bs) → get_or F c 0 ≡ 0
   cells_none e c l = sym (get_or-take (cells (plan_of bs)) F c 0 l) ∙ ap (λ (t : List ℕ). get_or t c 0) (lent.zeros_are e) ∙ get_or-replicate (cells (plan_of bs)) c 0 0 l
 
-  few_places : (2 * (plan_of bs).points) * width (plan_of bs) ≤ m
-  few_places = omega (arith, mul_assoc 2 (plan_of bs).points (width (plan_of bs)), few-cells)
-
-  pub first_room : Accepted bs × FirstLent bs F (entries m 0) (entries 64 1) z
+  pub first_room : Accepted bs × FirstLent bs F L (entries 64 1) z
   first_room = (
     lent.ready.accepted,
     record {
       long_first = lent.ready.long_first;
-      lists_long = rw (entries_length m 0) few_places;
+      lists_long = room.lists_long;
       counts_long = omega (arith, entries_length 64 1, (accepted_bounded bs lent.ready.accepted).points_in);
       cells_none = cells_none;
-      places_none = zeros_at m;
+      places_none = room.places_none;
       counts_one = λ c l. get_or-replicate 64 c 1 0 (omega (arith, (accepted_bounded bs lent.ready.accepted).points_in));
     },
   )
 
-  pub lists_room : (L C : List ℕ) (lined : ℕ) → FirstLists (plan_of bs) F L C lined → length L ≡ length (entries m 0) → length C ≡ length (entries 64 1)
-      → Ready bs M h F G × (RoomFrom (plan_with bs h) (take (cells (plan_of bs)) F) × ((take (cells (plan_of bs)) G ≡ take (cells (plan_of bs)) F) × ListsLent bs h F L C (entries k 0) lined (not z)))
-  lists_room L C lined first ll lc = (lent.ready, (lent.room_from, (lent.same_cells, listed)))
-    where
-      truth : (b : Bool) → not b ≡ false → b ≡ true
-      truth true e = refl
-      truth false e = sym e
-
-      listed : ListsLent bs h F L C (entries k 0) lined (not z)
-      listed = first_lent bs M h F G lent.ready L C lined first (omega (arith, lc, entries_length 64 1, (accepted_bounded bs lent.ready.accepted).points_in)) (entries k 0) (not z) (rw (ll, entries_length m 0) few_places) (rw (entries_length k 0) few-cells) (λ e. cells_none (truth z e))
+  pub lists_room : (L' C : List ℕ) (lined : ℕ) → FirstLists (plan_of bs) F L' C lined → length L' ≡ length L → length C ≡ length (entries 64 1)
+      → Ready bs M h F G × (RoomFrom (plan_with bs h) (take (cells (plan_of bs)) F) × ((take (cells (plan_of bs)) G ≡ take (cells (plan_of bs)) F) × ListsLent bs h F L' C N lined z))
+  lists_room L' C lined first ll lc = (
+    lent.ready,
+    (lent.room_from, (lent.same_cells, first_lent bs M h F G lent.ready L' C lined first (omega (arith, lc, entries_length 64 1, (accepted_bounded bs lent.ready.accepted).points_in)) N z (rw ll room.lists_long) room.notes_long cells_none)),
+  )

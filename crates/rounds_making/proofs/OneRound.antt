@@ -1,6 +1,6 @@
 -- One round made: from what it noted, and what the copy of noted cells leaves, to whether it stops and what is known of its table.
-use mathlib.Core.Path.{◌≡◌, refl, sym, ap, subst, ◌∙◌}
-use mathlib.Core.Bool.{Bool, true, false, ◌&&◌, ◌||◌}
+use mathlib.Core.Path.{◌≡◌, refl, sym, ap, ap₂, subst, ◌∙◌}
+use mathlib.Core.Bool.{Bool, true, false, not, ◌&&◌, ◌||◌}
 use mathlib.Core.List.{List}
 use Prim.Native.Nat.{ℕ, ◌+◌, ◌*◌, ◌/◌, ◌%◌, ◌^◌, ◌≤◌, ◌<◌}
 use native.Mathlib.Nat.{le_trans, mul-le-mul_right, suc-mul, mod-lt, div-add-mod', div-lt_iff_lt-mul, one-le-mul}
@@ -16,7 +16,6 @@ use Rattle.plan.specs.LinkSet.{contains}
 use Rattle.plan.specs.Plan.{Plan, width, cells}
 use Rattle.plan.proofs.Ranges.{WellFormed}
 use Rattle.plan.proofs.LabelLaws.{four_pos}
-use Rattle.plan.proofs.Truth.{is_true}
 use Rattle.rules.proofs.FirstAlarm.{width_le}
 use Rattle.rules.proofs.Next.{IsNext, next_is}
 use Rattle.rules_fill.specs.Shapes.{is_line}
@@ -26,13 +25,13 @@ use Rattle.rules_listed.proofs.Counting.{count_alike}
 use Rattle.rounds_points.specs.PointSets.{In, Concerned}
 use Rattle.rounds_points.proofs.PointSets.{in_left, in_right, union_below, is_empty, none_in, own_bit, zero_in, zero_out}
 use Rattle.rounds_tables.specs.Cells.{same}
-use Rattle.rounds_tables.specs.Ready.{SameOutside}
-use Rattle.rounds_tables.specs.Known.{RoundNoted, RaisedFrom, SettleLent, AfterSettle, LinedBut, LinedIn, OverLent, NoneRaisedAbove, Known}
+use Rattle.rounds_tables.specs.Ready.{CompareLent}
+use Rattle.rounds_tables.specs.Known.{RoundNoted, RaisedFrom, SettleLent, AfterSettle, LinedIn, NoneRaisedAbove, Known}
 use Rattle.rounds_tables.proofs.Comparing.{same_eq, eq_same, none_above}
 use Rattle.rounds_tables.proofs.RoundLaws.{next_length, above_at, above_nowhere}
 use Rattle.rounds_tables.proofs.Covering.{covered_next}
 use Rattle.rounds_making.specs.Rounds.{first_alarm_waits}
-use Rattle.rounds_making.specs.Making.{stops_by}
+use Rattle.rounds_making.specs.Making.{waits_by, stops_by}
 use Rattle.rounds_making.proofs.RoundsMade.{front_is, laid_cut}
 
 true_not_false : ◌≡◌ {A = Bool} true false → ⊥
@@ -100,21 +99,6 @@ module _ (P : Plan) (wf : WellFormed P) (F G G' : List ℕ) (long : cells P ≤ 
           go : Dec (get_or G' (y * width P + t) 0 ≡ get_or F (y * width P + t) 0) → get_or G' (y * width P + t) 0 ≡ get_or F (y * width P + t) 0
           go (yes e) = e
           go (no e) = absurd (out (f.raised_in y h (omega (arith, (f.all_raised y t h k e).below))))
-
-      pub lined_but : P.points ≤ 32 → 2 * P.points ≤ length C' → LinedBut P.points C' changed' lined
-      lined_but few lc = record {
-        few = few;
-        counts_long = lc;
-        changed_below = f.below;
-        lined_below = known.lined_in.below;
-        has = λ y h out k. known.lined_in.has y h (omega (arith, same_count y h out));
-      }
-        where
-          same_count : (y : ℕ) → y < P.points → (In changed' y → ⊥) → get_or C (2 * y + 1) 0 ≡ get_or C' (2 * y + 1) 0
-          same_count y h out = (known.lists_are.of_point y h).line_count ∙ count_alike (λ t. is_line t (get_or (take (cells P) F) (y * width P + t) 0)) (λ t. is_line t (get_or G' (y * width P + t) 0)) (width P) (λ t k. ap (is_line t) (first_at (y * width P + t) (cell_in y t h k) ∙ sym (kept y t h k out))) ∙ sym (settled.lists_are y h).line_count
-
-      pub over_lent : P.points ≤ 32 → 2 * P.points ≤ length C' → OverLent P.points (width P) G' L' C' changed'
-      over_lent few lc = record { few = few; below = f.below; long = long'; counts_long = lc; places = λ y h. (settled.lists_are y h).raised_places }
 
       pub round_known : (lined' : ℕ) (over' : Bool) → 2 * P.points ≤ length C' → LinedIn P.points C' lined' → NoneRaisedAbove P.points (width P) P.horizon G' L' C' changed' over' → Known P (next_cells P F) L' C' changed' lined' over'
       round_known lined' over' lc with-lines none = record {
@@ -187,60 +171,69 @@ module _ (P : Plan) (wf : WellFormed P) (F G G' : List ℕ) (long : cells P ≤ 
       tables_same : take (cells P) F' ≡ take (cells P) G'
       tables_same = ap (take (cells P)) settled.target_is ∙ ap (take (cells P)) (laid_cut (cells P) G' F) ∙ front_is (cells P) (take (cells P) G') F (length-take-le (cells P) G' long')
 
-      pub same_outside : (set : ℕ) → SameOutside P.points (width P) F' G' set
-      same_outside set = record { cell = λ y t h k out. let i = cell_in y t h k in sym (get_or-take (cells P) F' (y * width P + t) 0 i) ∙ ap (λ (l : List ℕ). get_or l (y * width P + t) 0) tables_same ∙ get_or-take (cells P) G' (y * width P + t) 0 i }
+      pub compare_lent : (set : ℕ) → P.points ≤ 32 → 2 * P.points ≤ length C' → length F' ≡ length F → CompareLent P.points (width P) F' G' L' C' set
+      compare_lent set few lc lf = record {
+        few = few;
+        long_first = rw lf long;
+        long_second = long';
+        counts_long = lc;
+        places = λ y h. (settled.lists_are y h).line_places;
+        others_same = λ y t h k out. let i = cell_in y t h k in sym (get_or-take (cells P) F' (y * width P + t) 0 i) ∙ ap (λ (l : List ℕ). get_or l (y * width P + t) 0) tables_same ∙ get_or-take (cells P) G' (y * width P + t) 0 i;
+      }
 
-      pub stops_is : (waits agree : Bool) → waits ≡ first_alarm_waits P (take (cells P) F) → agree ≡ same (take (P.points * width P) F') (take (P.points * width P) G')
+      pub waits_is : (waits : Bool) → waits ≡ first_alarm_waits P (take (cells P) F) → waits_by waits changed' ≡ first_alarm_waits P (next_cells P F)
+      unfolding waits_by
+      waits_is true w = sym (alarm_waits (sym w))
+      waits_is false w = go (contains changed' 0) refl
+        where
+          go : (b : Bool) → contains changed' 0 ≡ b → b ≡ first_alarm_waits P (next_cells P F)
+          go true q = sym (alarm_changed (subst Is (sym q) tt))
+          go false q = sym (alarm_still (sym w) (λ i. subst Is q i))
+
+      pub stops_is : (waits agree : Bool) → waits ≡ first_alarm_waits P (next_cells P F) → agree ≡ same (take (P.points * width P) F') (take (P.points * width P) G')
           → stops_by waits changed' agree ≡ first_alarm_waits P (next_cells P F) || same (take (cells P) F) (next_cells P F)
       unfolding stops_by
-      stops_is true agree w a = sym (ap (λ (b : Bool). b || same (take (cells P) F) (next_cells P F)) (alarm_waits (sym w)))
-      stops_is false agree w a = go (contains changed' 0) refl
+      stops_is waits agree w a = ap₂ (λ (b c : Bool). b || c) w (by (ℕ_discrete changed' 0))
         where
           both : agree ≡ true
           both = a ∙ eq_same (take (cells P) F') (take (cells P) G') tables_same
 
-          some : (e : changed' ≡ 0 → ⊥) → (In changed' 0 → ⊥) → false ≡ first_alarm_waits P (next_cells P F) || same (take (cells P) F) (next_cells P F)
-          some e out = rw (alarm_still (sym w) out) (sym (differ (same (take (cells P) F) (next_cells P F)) refl))
-            where
-              differ : (b : Bool) → same (take (cells P) F) (next_cells P F) ≡ b → b ≡ false
-              differ false q = refl
-              differ true q = absurd (e (is_empty P.points changed' f.below (λ y h i. true_not_false (sym q ∙ tables_differ y h i))))
+          differ : (changed' ≡ 0 → ⊥) → (b : Bool) → same (take (cells P) F) (next_cells P F) ≡ b → false ≡ b
+          differ e false q = refl
+          differ e true q = absurd (e (is_empty P.points changed' f.below (λ y h i. true_not_false (sym q ∙ tables_differ y h i))))
 
-          go : (b : Bool) → contains changed' 0 ≡ b → b || (eqb changed' 0 && agree) ≡ first_alarm_waits P (next_cells P F) || same (take (cells P) F) (next_cells P F)
-          go true q = sym (ap (λ (b : Bool). b || same (take (cells P) F) (next_cells P F)) (alarm_changed (subst Is (sym q) tt)))
-          go false q = by (ℕ_discrete changed' 0)
-            where
-              out : In changed' 0 → ⊥
-              out i = subst Is q i
-
-              by : Dec (changed' ≡ 0) → eqb changed' 0 && agree ≡ first_alarm_waits P (next_cells P F) || same (take (cells P) F) (next_cells P F)
-              by (yes e) = rw (eq-eqb changed' 0 e, both, alarm_still (sym w) out) (sym (tables_agree e))
-              by (no e) = rw (ne_eqb changed' 0 e) (some e out)
+          by : Dec (changed' ≡ 0) → eqb changed' 0 && agree ≡ same (take (cells P) F) (next_cells P F)
+          by (yes e) = rw (eq-eqb changed' 0 e, both) (sym (tables_agree e))
+          by (no e) = rw (ne_eqb changed' 0 e) (differ e (same (take (cells P) F) (next_cells P F)) refl)
 
 -- ---- the tests that the code makes, in turn
-module _ (waits : Bool) (changed : ℕ) (agree : Bool) where
-  pub stops_waiting : waits ≡ true → true ≡ stops_by waits changed agree
-  unfolding stops_by
-  stops_waiting e = rw e
+module _ (waits : Bool) (changed : ℕ) where
+  pub waits_already : waits ≡ true → true ≡ waits_by waits changed
+  unfolding waits_by
+  waits_already e = rw e
 
-  pub stops_first : waits ≡ false → (bit_and changed 1 ≡ 0 → ⊥) → true ≡ stops_by waits changed agree
-  unfolding stops_by
-  stops_first e h = rw (e, is_true (contains changed 0) (zero_in changed h))
-
-  not_first : bit_and changed 1 ≡ 0 → contains changed 0 ≡ false
-  not_first h = go (contains changed 0) refl
+  pub waits_newly : waits ≡ false → not (eqb (bit_and changed 1) 0) ≡ waits_by waits changed
+  unfolding waits_by
+  waits_newly e = rw e (go (contains changed 0) refl (ℕ_discrete (bit_and changed 1) 0))
     where
-      go : (b : Bool) → contains changed 0 ≡ b → b ≡ false
-      go false q = refl
-      go true q = absurd (zero_out changed h (subst Is (sym q) tt))
+      go : (b : Bool) → contains changed 0 ≡ b → Dec (bit_and changed 1 ≡ 0) → not (eqb (bit_and changed 1) 0) ≡ b
+      go false q (yes h) = rw (eq-eqb (bit_and changed 1) 0 h)
+      go true q (yes h) = absurd (zero_out changed h (subst Is (sym q) tt))
+      go false q (no h) = absurd (subst Is q (zero_in changed h))
+      go true q (no h) = rw (ne_eqb (bit_and changed 1) 0 h)
 
-  pub stops_not : waits ≡ false → bit_and changed 1 ≡ 0 → (changed ≡ 0 → ⊥) → false ≡ stops_by waits changed agree
-  unfolding stops_by
-  stops_not e h k = rw (e, not_first h, ne_eqb changed 0 k)
+  module _ (agree : Bool) where
+    pub stops_waiting : waits ≡ true → true ≡ stops_by waits changed agree
+    unfolding stops_by
+    stops_waiting e = rw e
 
-  pub stops_walk : (r : Bool) → waits ≡ false → bit_and changed 1 ≡ 0 → changed ≡ 0 → r ≡ agree → r ≡ stops_by waits changed agree
-  unfolding stops_by
-  stops_walk r e h k a = rw (e, not_first h, eq-eqb changed 0 k) a
+    pub stops_not : waits ≡ false → (changed ≡ 0 → ⊥) → false ≡ stops_by waits changed agree
+    unfolding stops_by
+    stops_not e k = rw (e, ne_eqb changed 0 k)
+
+    pub stops_walk : (r : Bool) → waits ≡ false → changed ≡ 0 → r ≡ agree → r ≡ stops_by waits changed agree
+    unfolding stops_by
+    stops_walk r e k a = rw (e, eq-eqb changed 0 k) a
 
 -- ---- the points to fill, with the first alarm where it is asked for
 module _ (n : ℕ) (sets : List ℕ) (changed lined givers found : ℕ) (some : 0 < n) (concerned : Concerned n sets changed lined givers found) (over : Bool) where

@@ -1,7 +1,7 @@
 -- The loop of the rounds: what is known before each, from the first on, and that one round's answer makes it known of the next.
 use mathlib.Core.Path.{◌≡◌, refl, sym, ap, ap₂, subst, ◌∙◌}
-use mathlib.Core.Bool.{Bool, true, false, ◌||◌}
-use mathlib.Core.List.{List}
+use mathlib.Core.Bool.{Bool, true, false, not}
+use mathlib.Core.List.{List, ◌++◌}
 use Prim.Native.Nat.{ℕ, ◌+◌, ◌-◌, ◌*◌, ◌^◌, ◌≤◌, ◌<◌}
 use native.Mathlib.Nat.{mul-le-mul_right, suc-mul}
 use native.Mathlib.Omega.{arith}
@@ -24,26 +24,29 @@ use Rattle.rules_rows.specs.RowsRead.{RowsRead}
 use Rattle.rounds_points.specs.PointSets.{In, Sets, Dependents, Givers, Concerned}
 use Rattle.rounds_points.proofs.PointSets.{in_all, all_below}
 use Rattle.rounds_tables.specs.Cells.{same, any_above}
-use Rattle.rounds_tables.specs.Ready.{Ready, NoNotes, SameOutside, RoundLent}
-use Rattle.rounds_tables.specs.Known.{RoundNoted, SettleLent, AfterSettle, LinedBut, LinedIn, OverLent, NoneRaisedAbove, AllListed, Known}
+use Rattle.rounds_tables.specs.Ready.{Ready, NoNotes, CompareLent, RoundLent}
+use Rattle.rounds_tables.specs.Known.{RoundNoted, SettleLent, AfterSettle, LinedIn, NoneRaisedAbove, AllListed, Known}
+use Rattle.rounds_tables.specs.Log.{round_entries, Logged, LogLent}
+use Rattle.rounds_tables.proofs.LogLaws.{round_alike, unnoted_agree}
 use Rattle.rounds_tables.proofs.RoundLaws.{next_length}
 use Rattle.rounds_tables.proofs.Covering.{covered_first}
 use Rattle.rounds_tables.proofs.Affected.{unaffected}
 use Rattle.rounds_making.specs.declared.making.Round.{Round}
 use Rattle.rounds_making.specs.Rounds.{first_alarm_waits}
-use Rattle.rounds_making.specs.Making.{stops_by, RoundReady, RoundMade, ListsLent, FirstLists}
+use Rattle.rounds_making.specs.Making.{waits_by, stops_by, RoundReady, RoundMade, RoundLogged, ListsLent, FirstLists}
 use Rattle.rounds_making.specs.Runs.{RoomFrom}
 use Rattle.rounds_making.proofs.RoundsMade.{front_is, laid_on, ready_on, Held, held_none, held_same, held_room, held_more}
-use Rattle.rounds_making.proofs.OneRound.{lists_same, settle_lent, lined_but, over_lent, same_outside, stops_is, round_known}
+use Rattle.rounds_making.proofs.OneRound.{lists_same, first_at, second_at, settle_lent, compare_lent, waits_is, stops_is, round_known}
 
 -- ---- one round, from what its calls leave; the code's numbers n and w are the points and the cells of a point
 module _ (P : Plan) (wf : WellFormed P) (F G G' : List ℕ) (long : cells P ≤ length F) (made : G' ≡ laid_over (cells P) (next_cells P F) G) (long' : cells P ≤ length G')
-    (L C : List ℕ) (last : Round) (known : Known P (take (cells P) F) L C last.changed last.lined last.over) (waits : last.stops ≡ first_alarm_waits P (take (cells P) F)) where
+    (L C : List ℕ) (last : Round) (known : Known P (take (cells P) F) L C last.changed last.lined last.over) (waits : last.waits ≡ first_alarm_waits P (take (cells P) F)) where
   pub round_made : (F' D' L' C' : List ℕ) (r : Round) (agree : Bool) → AfterSettle P.points (width P) G' F F' D' L' C' r.changed → 2 * P.points ≤ length C' → LinedIn P.points C' r.lined
-      → NoneRaisedAbove P.points (width P) P.horizon G' L' C' r.changed r.over → agree ≡ same (take (P.points * width P) F') (take (P.points * width P) G') → r.stops ≡ stops_by last.stops r.changed agree
+      → NoneRaisedAbove P.points (width P) P.horizon G' L' C' r.changed r.over → agree ≡ same (take (P.points * width P) F') (take (P.points * width P) G') → r.waits ≡ waits_by last.waits r.changed → r.stops ≡ stops_by r.waits r.changed agree
       → length F' ≡ length F → length G' ≡ length G → RoundMade P (record { entry = F; exit = F' }) (record { entry = G; exit = G' }) L' C' D' r
-  round_made F' D' L' C' r agree settled lc with-lines none agrees stops lf lg = record {
-    stops_is = stops ∙ stops_is P wf F G G' long made long' L C last.changed last.lined last.over known F' D' L' C' r.changed settled last.stops agree waits agrees;
+  round_made F' D' L' C' r agree settled lc with-lines none agrees now-waits stops lf lg = record {
+    stops_is = stops ∙ stops_is P wf F G G' long made long' L C last.changed last.lined last.over known F' D' L' C' r.changed settled r.waits agree waits_then agrees;
+    waits_is = waits_then;
     first_is = settled.target_is ∙ ap (λ (l : List ℕ). laid_over (cells P) l F) made ∙ laid_on (cells P) (next_cells P F) G (next_length P wf F long) F;
     second_is = made;
     first_length = lf;
@@ -51,6 +54,9 @@ module _ (P : Plan) (wf : WellFormed P) (F G G' : List ℕ) (long : cells P ≤ 
     known = round_known P wf F G G' long made long' L C last.changed last.lined last.over known F' D' L' C' r.changed settled r.lined r.over lc with-lines none;
     no_notes = settled.no_notes;
   }
+    where
+      waits_then : r.waits ≡ first_alarm_waits P (next_cells P F)
+      waits_then = now-waits ∙ waits_is P wf F G G' long made long' L C last.changed last.lined last.over known F' D' L' C' r.changed settled last.waits waits
 
 -- ---- before each round
 -- both tables hold the table of round r, and what is known of it; the lists are as long as those that were lent
@@ -58,12 +64,12 @@ pub record Rounding (P : Plan) (F₀ G₀ L₀ C₀ N₀ : List ℕ) (r : ℕ) (
   pub held : Held P F₀ G₀ r F G
   pub known : Known P (take (cells P) F) L C last.changed last.lined last.over
   pub no_notes : NoNotes P.points D
-  pub waits_is : last.stops ≡ first_alarm_waits P (take (cells P) F)
+  pub waits_is : last.waits ≡ first_alarm_waits P (take (cells P) F)
   pub lists_length : length L ≡ length L₀
   pub counts_length : length C ≡ length C₀
   pub notes_length : length N ≡ length N₀
 
-module _ (bs M : List ℕ) (h : ℕ) (F₀ G₀ L₀ C₀ N₀ : List ℕ) (ready : Ready bs M h F₀ G₀) (room : RoomFrom (plan_with bs h) (take (cells (plan_of bs)) F₀)) (lined₀ : ℕ) (over₀ : Bool) (lent : ListsLent bs h F₀ L₀ C₀ N₀ lined₀ over₀) where
+module _ (bs M : List ℕ) (h : ℕ) (F₀ G₀ L₀ C₀ N₀ : List ℕ) (ready : Ready bs M h F₀ G₀) (room : RoomFrom (plan_with bs h) (take (cells (plan_of bs)) F₀)) (lined₀ : ℕ) (z : Bool) (lent : ListsLent bs h F₀ L₀ C₀ N₀ lined₀ z) where
   P : Plan
   P = plan_with bs h
 
@@ -71,8 +77,8 @@ module _ (bs M : List ℕ) (h : ℕ) (F₀ G₀ L₀ C₀ N₀ : List ℕ) (read
   wf = with_well_formed bs ready.accepted h ready.horizon_far
 
   -- before the first, where every point counts as changed
-  pub rounding_first : (D : List ℕ) (w : ℕ) (last : Round) → take (cells (plan_of bs)) G₀ ≡ take (cells (plan_of bs)) F₀ → NoNotes (plan_of bs).points D → w ≡ width (plan_of bs) → last.stops ≡ any_above (take w F₀) → last.changed ≡ 2 ^ (plan_of bs).points - 1 → last.lined ≡ lined₀
-      → last.over ≡ over₀ → Rounding (plan_with bs h) F₀ G₀ L₀ C₀ N₀ 0 F₀ G₀ L₀ C₀ N₀ D last
+  pub rounding_first : (D : List ℕ) (w : ℕ) (last : Round) → take (cells (plan_of bs)) G₀ ≡ take (cells (plan_of bs)) F₀ → NoNotes (plan_of bs).points D → w ≡ width (plan_of bs) → last.waits ≡ any_above (take w F₀) → last.changed ≡ 2 ^ (plan_of bs).points - 1 → last.lined ≡ lined₀
+      → last.over ≡ not z → Rounding (plan_with bs h) F₀ G₀ L₀ C₀ N₀ 0 F₀ G₀ L₀ C₀ N₀ D last
   rounding_first D w last same none ew es ec el eo = record {
     held = held_none (plan_with bs h) F₀ G₀ same;
     known = record {
@@ -117,7 +123,7 @@ module _ (bs M : List ℕ) (h : ℕ) (F₀ G₀ L₀ C₀ N₀ : List ℕ) (read
         held = held_more (plan_with bs h) wf F₀ ready.long_first G₀ r F G at.held F' G' L' C' D' made t e;
         known = rw front_then t.known;
         no_notes = t.no_notes;
-        waits_is = e ∙ sym (ap (first_alarm_waits (plan_with bs h)) front_then ∙ left (first_alarm_waits (plan_with bs h) (next_cells (plan_with bs h) F)) _ (sym t.stops_is ∙ e));
+        waits_is = t.waits_is ∙ sym (ap (first_alarm_waits (plan_with bs h)) front_then);
         lists_length = ll ∙ at.lists_length;
         counts_length = lc ∙ at.counts_length;
         notes_length = ln ∙ at.notes_length;
@@ -125,10 +131,6 @@ module _ (bs M : List ℕ) (h : ℕ) (F₀ G₀ L₀ C₀ N₀ : List ℕ) (read
         where
           front_then : take (cells (plan_of bs)) F' ≡ next_cells (plan_with bs h) F
           front_then = ap (take (cells (plan_of bs))) t.first_is ∙ front_is (cells (plan_of bs)) (next_cells (plan_with bs h) F) F (next_length (plan_with bs h) wf F (rw at.held.first_length ready.long_first))
-
-          left : (a b : Bool) → a || b ≡ false → a ≡ false
-          left false b z = refl
-          left true b z = z
 
 -- ---- before the first round: all lines are listed
 module _ (bs M : List ℕ) (h : ℕ) (F G : List ℕ) (ready : Ready bs M h F G) (L C : List ℕ) (lined : ℕ) (first : FirstLists (plan_of bs) F L C lined) (counts_long : 2 * (plan_of bs).points ≤ length C) where
@@ -141,8 +143,8 @@ module _ (bs M : List ℕ) (h : ℕ) (F G : List ℕ) (ready : Ready bs M h F G)
     lines_raised = λ y t k l i. first.all_listed.lines_raised y t k l (subst (λ (v : ℕ). Is (is_line t v)) (sym (cut (y * width (plan_of bs) + t) (omega (arith, rw suc-mul at (mul-le-mul_right (width (plan_of bs)) k))))) i);
   }
 
-  pub first_lent : (N : List ℕ) (over : Bool) → (2 * (plan_of bs).points) * width (plan_of bs) ≤ length L → cells (plan_of bs) ≤ length N → (over ≡ false → (c : ℕ) → c < cells (plan_of bs) → get_or F c 0 ≡ 0) → ListsLent bs h F L C N lined over
-  first_lent N over ll ln zero = record {
+  pub first_lent : (N : List ℕ) (z : Bool) → (2 * (plan_of bs).points) * width (plan_of bs) ≤ length L → cells (plan_of bs) ≤ length N → (z ≡ true → (c : ℕ) → c < cells (plan_of bs) → get_or F c 0 ≡ 0) → ListsLent bs h F L C N lined z
+  first_lent N z ll ln zero = record {
     lists_long = ll;
     notes_long = ln;
     lists_are = record {
@@ -151,8 +153,13 @@ module _ (bs M : List ℕ) (h : ℕ) (F G : List ℕ) (ready : Ready bs M h F G)
       covered = covered_first (plan_with bs h) (with_well_formed bs ready.accepted h ready.horizon_far) (take (cells (plan_of bs)) F) L C (length-take-le (cells (plan_of bs)) F ready.long_first) listed;
     };
     lined_in = first.lined_in;
-    none_over = record { none = λ e y t k l r. let i : y * width (plan_of bs) + t < cells (plan_of bs) = omega (arith, rw suc-mul at (mul-le-mul_right (width (plan_of bs)) k)) in omega (arith, zero e (y * width (plan_of bs) + t) i, cut (y * width (plan_of bs) + t) i) };
+    none_over = record { none = λ e y t k l r. let i : y * width (plan_of bs) + t < cells (plan_of bs) = omega (arith, rw suc-mul at (mul-le-mul_right (width (plan_of bs)) k)) in omega (arith, zero (truth z e) (y * width (plan_of bs) + t) i, cut (y * width (plan_of bs) + t) i) };
+    cells_none = zero;
   }
+    where
+      truth : (b : Bool) → not b ≡ false → b ≡ true
+      truth true e = refl
+      truth false e = sym e
 
 -- ---- one round, call by call
 module _ {bs M : List ℕ} {h : ℕ} {F G L C N D rows : List ℕ} {w mask set : ℕ} {last : Round} (r : RoundReady bs M h F G L C N D rows w mask set last) where
@@ -183,11 +190,28 @@ module _ {bs M : List ℕ} {h : ℕ} {F G L C N D rows : List ℕ} {w mask set :
     long' : cells (plan_of bs) ≤ length G'
     long' = rw lg r.ready.long_second
 
-    pub settle_lends : length N' ≡ length N → SettleLent n w G' F N' D' L C (bit_or set last.changed)
+    pub settle_lends : length N' ≡ length N → SettleLent n w G' F N' D' L C (bit_or set last.changed) × LinedIn n C last.lined
     settle_lends ln =
         let b = accepted_bounded bs r.ready.accepted in
         let narrow = width_small (plan_of bs).links (plan_of bs).propositions b.links_in b.propositions_in in
-        rw (en, r.numbers.width_is) (settle_lent (plan_with bs h) well F G G' r.ready.long_first made long' L C last.changed last.lined last.over r.known N' D' set few (omega (arith, narrow)) r.lists_long (rw ln r.notes_long) r.set_below (rw r.numbers.width_is at noted))
+        rw (en, r.numbers.width_is) (settle_lent (plan_with bs h) well F G G' r.ready.long_first made long' L C last.changed last.lined last.over r.known N' D' set few (omega (arith, narrow)) r.lists_long (rw ln r.notes_long) r.set_below (rw r.numbers.width_is at noted), r.known.lined_in)
+
+    -- what the log is lent, and what it then has
+    pub log_lends : (log : List ℕ) (at : ℕ) → at ≤ length log → LogLent n w F G' D' log at
+    log_lends log at k = rw (en, r.numbers.width_is) (record {
+      narrow = omega (arith, (accepted_bounded bs r.ready.accepted).cells_in);
+      long_first = r.ready.long_first;
+      long_second = long';
+      noted_long = noted.long;
+      at_in = k;
+      unnoted = unnoted_agree (plan_of bs).points (width (plan_of bs)) F G' N' D' set (rw r.numbers.width_is at noted);
+    })
+
+    pub round_logs : (log : List ℕ) (at : ℕ) (log' : List ℕ) (at' : ℕ) → ((es : List ℕ) → Logged es log at → Logged (es ++ round_entries F G' (n * w)) log' at') → at' ≤ length log' → RoundLogged (plan_with bs h) F log at log' at'
+    round_logs log at log' at' joined k = record { logged = λ es l. rw (← entries) (joined es l); at_in = k }
+      where
+        entries : round_entries F G' (n * w) ≡ round_entries (take (cells (plan_of bs)) F) (next_cells (plan_with bs h) F) (cells (plan_of bs))
+        entries = rw (en, r.numbers.width_is) (round_alike F G' (take (cells (plan_of bs)) F) (next_cells (plan_with bs h) F) (cells (plan_of bs)) (λ c i. sym (first_at (plan_with bs h) well F G G' r.ready.long_first made long' c i)) (second_at (plan_with bs h) well F G G' r.ready.long_first made long'))
 
     -- and the copy of noted cells
     module _ (F' D'' L' C' : List ℕ) (changed : ℕ) (settled : AfterSettle n w G' F F' D'' L' C' changed) (lc : length C' ≡ length C) where
@@ -197,23 +221,14 @@ module _ {bs M : List ℕ} {h : ℕ} {F G L C N D rows : List ℕ} {w mask set :
       counts_long : 2 * (plan_of bs).points ≤ length C'
       counts_long = rw lc r.known.lists_are.counts_long
 
-      pub lined_lends : LinedBut n C' changed last.lined
-      lined_lends = rw en (lined_but (plan_with bs h) well F G G' r.ready.long_first made long' L C last.changed last.lined last.over r.known F' D'' L' C' changed after few counts_long)
+      pub stops_lends : length F' ≡ length F → CompareLent n w F' G' L' C' set
+      stops_lends lf = rw (en, r.numbers.width_is) (compare_lent (plan_with bs h) well F G G' r.ready.long_first made long' L C last.changed last.lined last.over r.known F' D'' L' C' changed after set few counts_long lf)
 
-      pub over_lends : OverLent n w G' L' C' changed
-      over_lends = rw (en, r.numbers.width_is) (over_lent (plan_with bs h) well F G G' r.ready.long_first made long' L C last.changed last.lined last.over r.known F' D'' L' C' changed after few counts_long)
-
-      pub stops_lends : length F' ≡ length F → ((n ≤ 32) × (n * w ≤ length F') × (n * w ≤ length G')) × SameOutside n w F' G' set
-      stops_lends lf = (
-        (rw en few, rw (en, r.numbers.width_is, lf) r.ready.long_first, rw (en, r.numbers.width_is) long'),
-        rw (en, r.numbers.width_is) (same_outside (plan_with bs h) well F G G' r.ready.long_first made long' L C last.changed last.lined last.over r.known F' D'' L' C' changed after set),
-      )
-
-      pub round_ends : (made' : Round) → made'.changed ≡ changed → LinedIn n C' made'.lined → NoneRaisedAbove n w h G' L' C' changed made'.over → made'.stops ≡ stops_by last.stops changed (same (take (n * w) F') (take (n * w) G')) → length F' ≡ length F
+      pub round_ends : (made' : Round) → made'.changed ≡ changed → LinedIn n C' made'.lined → NoneRaisedAbove n w h G' L' C' changed made'.over → made'.waits ≡ waits_by last.waits changed → made'.stops ≡ stops_by made'.waits changed (same (take (n * w) F') (take (n * w) G')) → length F' ≡ length F
           → RoundMade (plan_with bs h) (record { entry = F; exit = F' }) (record { entry = G; exit = G' }) L' C' D'' made'
-      round_ends made' ec lines none stops lf =
+      round_ends made' ec lines none waits stops lf =
           round_made (plan_with bs h) well F G G' r.ready.long_first made long' L C last r.known r.waits_is F' D'' L' C' made' (same (take ((plan_of bs).points * width (plan_of bs)) F') (take ((plan_of bs).points * width (plan_of bs)) G')) (rw ec after) counts_long (rw en at lines)
-          (rw ec (rw (en, r.numbers.width_is) at none)) refl (stops ∙ ap₂ (λ (c : ℕ) (b : Bool). stops_by last.stops c b) (sym ec) (ap (λ (m : ℕ). same (take m F') (take m G')) (ap₂ (λ (a b : ℕ). a * b) en r.numbers.width_is))) lf lg
+          (rw ec (rw (en, r.numbers.width_is) at none)) refl (waits ∙ ap (waits_by last.waits) (sym ec)) (stops ∙ ap₂ (λ (c : ℕ) (b : Bool). stops_by made'.waits c b) (sym ec) (ap (λ (m : ℕ). same (take m F') (take m G')) (ap₂ (λ (a b : ℕ). a * b) en r.numbers.width_is))) lf lg
 
 -- ---- arrays of zeros
 zero_at : (y : ℕ) → y < 32 → ◌≡◌ {A = ℕ} (get_or (replicate 32 0) y 0) 0

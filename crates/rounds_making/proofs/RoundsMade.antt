@@ -7,8 +7,8 @@ use native.Mathlib.Nat.{le_refl, le_trans}
 use native.Mathlib.Numerals.{add-one}
 use native.Mathlib.Omega.{arith}
 use lib.Dec.{T as Is}
-use lib.ListN.{length, take, drop, take-append-drop}
-use lib.Seq.{length-take-le, take_at, drop_at, take-take, take-append-le, take_all}
+use lib.ListN.{length, get_or, take, drop, take-append-drop}
+use lib.Seq.{length-take-le, take_at, drop_at, take-take, take_all}
 use Rattle.plan.specs.Plan.{Plan, width, cells}
 use Rattle.plan.specs.Layout.{plan_of}
 use Rattle.plan.specs.Horizons.{plan_with}
@@ -18,6 +18,7 @@ use Rattle.rules_fill.specs.Parts.{AtMost, laid_over}
 use Rattle.rules.proofs.FirstAlarm.{width_le}
 use Rattle.rounds_tables.specs.Cells.{same, any_above}
 use Rattle.rounds_tables.specs.Ready.{Ready}
+use Rattle.rounds_tables.proofs.RoundLaws.{above_nowhere}
 use Rattle.rounds_making.specs.Rounds.{table_from, first_alarm_waits, stops_at}
 use Rattle.rounds_making.specs.Outcomes.{Outcome, kept, broken, spent, pick, run_table}
 use Rattle.rounds_making.specs.declared.making.Round.{Round}
@@ -60,14 +61,14 @@ laid_self n L = sym (take-append-drop n L)
 pub ready_on : (bs M : List ℕ) (h : ℕ) (F G D E : List ℕ) → Ready bs M h F G → length D ≡ length F → length E ≡ length G → Ready bs M h D E
 ready_on bs M h F G D E r d e = record { accepted = r.accepted; marked = r.marked; horizon_far = r.horizon_far; long_first = rw d r.long_first; long_second = rw e r.long_second }
 
--- what the tests ask for of tables of m and k entries, where k is as many as k₀
-module _ (P : Plan) (wf : WellFormed P) (w k k₀ : ℕ) (ew : w ≡ width P) (e : k ≡ k₀) (long : cells P ≤ k₀) where
-  pub alarm_fits : w ≤ k
-  alarm_fits = rw (ew, e) (le_trans (width_le P wf) long)
+-- ---- the first alarm's cells in a table with at least the plan's; the code's number w is the cells of a point
+module _ (P : Plan) (wf : WellFormed P) (F : List ℕ) (w : ℕ) (ew : w ≡ width P) where
+  pub alarm_fits : cells P ≤ length F → w ≤ length F
+  alarm_fits long = rw ew (le_trans (width_le P wf) long)
 
--- the first alarm's cells among those laid over a table
-pub waits_in : (P : Plan) → WellFormed P → (A L G : List ℕ) (w : ℕ) → length A ≡ cells P → w ≡ width P → G ≡ laid_over (cells P) A L → any_above (take w G) ≡ first_alarm_waits P A
-waits_in P wf A L G w known ew g = ap any_above (ap₂ take ew (g ∙ laid_joined (cells P) A L known) ∙ take-append-le (width P) A (drop (cells P) L) (rw known (width_le P wf)))
+  -- where all cells are 0 it does not wait
+  pub alarm_none : ((c : ℕ) → c < cells P → get_or F c 0 ≡ 0) → any_above (take w F) ≡ false
+  alarm_none zero = rw ew (above_nowhere F (width P) (λ t h. zero t (le_trans h (width_le P wf))))
 
 -- ---- the rounds one by one
 -- both tables hold the table of round r, and no round up to r stopped
@@ -147,6 +148,9 @@ module _ (P : Plan) (wf : WellFormed P) (F₀ : List ℕ) (long : cells P ≤ le
       stops_then : made.stops ≡ stops_at P (take (cells P) F₀) (suc r)
       stops_then = t.stops_is ∙ ap (λ (l : List ℕ). first_alarm_waits P (next P l) || same l (next P l)) front ∙ sym (stops_by_lem P (take (cells P) F₀) r)
 
+      waits_then : made.waits ≡ first_alarm_waits P (table_from P (take (cells P) F₀) (suc r))
+      waits_then = t.waits_is ∙ ap (λ (l : List ℕ). first_alarm_waits P (next P l)) front
+
       first_then : F' ≡ laid_over (cells P) (table_from P (take (cells P) F₀) (suc r)) F₀
       first_then = t.first_is ∙ ap₂ (λ (x y : List ℕ). laid_over (cells P) (next P x) y) front held.first_is ∙ laid_again (cells P) (table_from P (take (cells P) F₀) r) F₀ (known r) (table_from P (take (cells P) F₀) (suc r))
 
@@ -162,8 +166,8 @@ module _ (P : Plan) (wf : WellFormed P) (F₀ : List ℕ) (long : cells P ≤ le
         second_length = t.second_length ∙ held.second_length;
       })
 
-      pub ran_stopped : (limit w : ℕ) (o : Outcome) → r < limit → made.stops ≡ true → w ≡ width P → o ≡ pick (any_above (take w G')) (broken (r + 1)) (kept (r + 1)) → Ran P F₀ G₀ limit o F' G'
-      ran_stopped limit w o h e ew eo =
+      pub ran_stopped : (limit : ℕ) (o : Outcome) → r < limit → made.stops ≡ true → o ≡ pick made.waits (broken (r + 1)) (kept (r + 1)) → Ran P F₀ G₀ limit o F' G'
+      ran_stopped limit o h e eo =
           let T = take (cells P) F₀ in
-          let a : o ≡ pick (first_alarm_waits P (table_from P T (suc r))) (broken (suc r)) (kept (suc r)) = eo ∙ ap₂ (λ (b : Bool) (k : ℕ). pick b (broken k) (kept k)) (waits_in P wf (table_from P T (suc r)) G₀ G' w (known (suc r)) ew second_then) (add-one r) in
+          let a : o ≡ pick (first_alarm_waits P (table_from P T (suc r))) (broken (suc r)) (kept (suc r)) = eo ∙ ap₂ (λ (b : Bool) (k : ℕ). pick b (broken k) (kept k)) waits_then (add-one r) in
           ran limit o (suc r) F' G' (rw a (ends_at P T limit r h held.runs (sym stops_then ∙ e))) first_then second_then (t.first_length ∙ held.first_length) (t.second_length ∙ held.second_length)

@@ -1,5 +1,5 @@
 -- For inner contracts only: one round after another, with what is known of the table between them. Nothing here is to be believed.
-use Rattle.std.specs.Prelude.{◌≡◌, Bool, true, ◌&&◌, ◌||◌, List, ℕ, ◌*◌, ◌^◌, ◌≤◌, ◌<◌, eqb, length, get_or, take}
+use Rattle.std.specs.Prelude.{◌≡◌, Bool, true, not, ◌&&◌, ◌||◌, List, ◌++◌, ℕ, ◌*◌, ◌^◌, ◌≤◌, ◌<◌, eqb, length, get_or, take}
 use Rattle.plan.specs.LinkSet.{contains}
 use Rattle.plan.specs.Moments.{Moments}
 use Rattle.plan.specs.Plan.{Plan, width, cells}
@@ -13,12 +13,17 @@ use Rattle.rules_refill.specs.Lent.{NoneOver}
 use Rattle.rounds_tables.specs.Cells.{same}
 use Rattle.rounds_tables.specs.Ready.{Ready, Unaffected, NoNotes}
 use Rattle.rounds_tables.specs.Known.{Known, LinedIn, AllListed}
+use Rattle.rounds_tables.specs.Log.{round_entries, Logged}
 use Rattle.rounds_making.specs.declared.making.Round.{Round}
 use Rattle.rounds_making.specs.Rounds.{first_alarm_waits}
 
--- a round that changed these points stops the rounds: the first alarm waited before or changed, or no point changed and the tables agree
+-- the first alarm waits after a round that changed these points: it waited before, or is one of them
+unfoldable pub waits_by : Bool → ℕ → Bool
+waits_by waits changed = waits || contains changed 0
+
+-- a round that changed these points stops the rounds: the first alarm waits, or no point changed and the tables agree
 unfoldable pub stops_by : Bool → ℕ → Bool → Bool
-stops_by waits changed agree = waits || (contains changed 0 || (eqb changed 0 && agree))
+stops_by waits changed agree = waits || (eqb changed 0 && agree)
 
 -- two tables with the same cells, the plan's rows, what is known of the table, room for what the round notes, the points to fill, and whether the first alarm
 -- waits already
@@ -34,11 +39,12 @@ pub record RoundReady (plan marks : List ℕ) (horizon : ℕ) (first second list
   pub no_notes : NoNotes (plan_of plan).points noted
   pub set_below : set < 2 ^ (plan_of plan).points
   pub unaffected : Unaffected (plan_with plan horizon) (take (cells (plan_of plan)) first) set
-  pub waits_is : last.stops ≡ first_alarm_waits (plan_with plan horizon) (take (cells (plan_of plan)) first)
+  pub waits_is : last.waits ≡ first_alarm_waits (plan_with plan horizon) (take (cells (plan_of plan)) first)
 
--- one round from the cells of the first table left its table in the cells of both; whether it stops, and what is known of its table
+-- one round from the cells of the first table left its table in the cells of both; whether it stops, whether the first alarm waits, and what is known of its table
 pub record RoundMade (P : Plan) (first second : Moments) (lists counts noted : List ℕ) (made : Round) : Type 0 where
   pub stops_is : made.stops ≡ first_alarm_waits P (next_cells P first.entry) || same (take (cells P) first.entry) (next_cells P first.entry)
+  pub waits_is : made.waits ≡ first_alarm_waits P (next_cells P first.entry)
   pub first_is : first.exit ≡ laid_over (cells P) (next_cells P first.entry) first.entry
   pub second_is : second.exit ≡ laid_over (cells P) (next_cells P first.entry) second.entry
   pub first_length : length first.exit ≡ length first.entry
@@ -46,13 +52,25 @@ pub record RoundMade (P : Plan) (first second : Moments) (lists counts noted : L
   pub known : Known P (next_cells P first.entry) lists counts made.changed made.lined made.over
   pub no_notes : NoNotes P.points noted
 
--- what is known of the table before the first round, where every point counts as changed, and room for notes
-pub record ListsLent (plan : List ℕ) (horizon : ℕ) (first lists counts notes : List ℕ) (lined : ℕ) (over : Bool) : Type 0 where
+-- a log with `at` entries got those of one round from the cells of the first table, as far as it is long
+pub record RoundLogged (P : Plan) (first log : List ℕ) (at : ℕ) (log' : List ℕ) (at' : ℕ) : Type 0 where
+  pub logged : (es : List ℕ) → Logged es log at → Logged (es ++ round_entries (take (cells P) first) (next_cells P first) (cells P)) log' at'
+  pub at_in : at' ≤ length log'
+
+-- what is known of the table before the first round, where every point counts as changed, and room for notes; zeros, where that is said
+pub record ListsLent (plan : List ℕ) (horizon : ℕ) (first lists counts notes : List ℕ) (lined : ℕ) (none : Bool) : Type 0 where
   pub lists_long : (2 * (plan_of plan).points) * width (plan_of plan) ≤ length lists
   pub notes_long : cells (plan_of plan) ≤ length notes
   pub lists_are : Lists (plan_with plan horizon) (take (cells (plan_of plan)) first) lists counts
   pub lined_in : LinedIn (plan_of plan).points counts lined
-  pub none_over : NoneOver (plan_with plan horizon) (take (cells (plan_of plan)) first) lists counts over
+  pub none_over : NoneOver (plan_with plan horizon) (take (cells (plan_of plan)) first) lists counts (not none)
+  pub cells_none : none ≡ true → (c : ℕ) → c < cells (plan_of plan) → get_or first c 0 ≡ 0
+
+-- room for the lists and the notes of a plan; the lists are 0
+pub record ListRoom (P : Plan) (lists notes : List ℕ) : Type 0 where
+  pub lists_long : (2 * P.points) * width P ≤ length lists
+  pub notes_long : cells P ≤ length notes
+  pub places_none : (c : ℕ) → get_or lists c 0 ≡ 0
 
 -- room for the lists of a table; of a table of zeros they are there
 pub record FirstLent (plan first lists counts : List ℕ) (none : Bool) : Type 0 where

@@ -1,50 +1,57 @@
 // One round of both tables, and rounds up to a limit.
-ghost use Rattle.std.specs.Prelude.{◌≡◌, true, ◌*◌, ◌^◌, ◌≤◌, ◌<◌, length, take};
+ghost use Rattle.std.specs.Prelude.{◌≡◌, true, false, ◌*◌, ◌^◌, ◌≤◌, ◌<◌, length, take};
 ghost use Rattle.plan.specs.Moments.{moments, SameLength};
 ghost use Rattle.plan.specs.Plan.{cells as cells_of};
 ghost use Rattle.plan.specs.Layout.{plan_of};
 ghost use Rattle.plan.specs.Horizons.{plan_with};
 ghost use Rattle.plan.specs.Refusal.{Accepted};
 ghost use Rattle.rounds_tables.specs.Cells.{same, any_above};
-ghost use Rattle.rounds_tables.specs.Ready.{Ready, SameOutside};
+ghost use Rattle.rounds_tables.specs.Ready.{Ready, CompareLent};
 ghost use Rattle.rounds_points.specs.PointSets.{In, Sets, Concerned};
 ghost use Rattle.rounds_making.specs.Runs.{RoomFrom, RunLent, Ran};
-ghost use Rattle.rounds_making.specs.Making.{stops_by, RoundReady, RoundMade, ListsLent, FirstLent, FirstLists};
+ghost use Rattle.rounds_making.specs.Making.{waits_by, stops_by, RoundReady, RoundMade, RoundLogged, ListsLent, ListRoom, FirstLent, FirstLists};
 ghost use Rattle.rounds_making.specs.Outcomes.{kept, broken, pick, outcome_of};
+ghost use Rattle.rounds_making.specs.Logs.{LoggedRun};
 
 use crate::Answer;
 use plan::{cells, points, width as point_width};
 use rounds_points::{concerned, find_dependents, find_givers};
-use rounds_tables::{
-    first_alarm_waits, lined_after, list_lines, next_round, over_horizon, same_cells, settle,
-};
+use rounds_tables::{first_alarm_waits, list_lines, log_round, next_round, same_cells, settle};
 use rules_fill::label_mask;
 use rules_rows::read_rows;
+
+// Whether the first alarm waits after a round that changed these points: it waited before, or it is one of them.
+fn waits_after(waits: bool, changed: usize) -> bool
+    ensures { result ≡ waits_by waits changed }
+{
+    if waits {
+        return true;
+    }
+    changed & 1 != 0
+}
 
 // Whether a round that changed these points stops the rounds: the first alarm waits, or both tables agree. They are compared where no point changed, at the points that it filled.
 fn stops(
     first: &[u32],
     second: &[u32],
+    lists: &[u16],
+    counts: &[usize],
     points: usize,
     width: usize,
     waits: bool,
     changed: usize,
     filled: usize,
 ) -> bool
-    requires points_bound { (points ≤ 32) × (points * width ≤ length first.now) × (points * width ≤ length second.now) }
-    requires same_outside { SameOutside points width first.now second.now filled }
+    requires { CompareLent points width first.now second.now lists.now counts.now filled }
     ensures { result ≡ stops_by waits changed (same (take (points * width) first.now) (take (points * width) second.now)) }
 {
     if waits {
         return true;
     }
-    if changed & 1 != 0 {
-        return true;
-    }
     if changed != 0 {
         return false;
     }
-    same_cells(first, second, points, width, filled)
+    same_cells(first, second, lists, counts, points, width, filled)
 }
 
 // The points to fill in a round: those that it concerns, and the first alarm where a raised cell is over the horizon.
@@ -66,16 +73,19 @@ fn points_to_fill(
     found
 }
 
-// A round made: whether it stops the rounds, the points that it changed, those with a line beside the starting line, and whether a raised cell is over the horizon.
+// A round made: whether it stops the rounds, whether the first alarm waits, the points that it changed, those with a line beside the starting line, whether a
+// raised cell is over the horizon, and how many entries the log has.
 #[derive(Clone, Copy)]
 pub struct Round {
     pub stops: bool,
+    pub waits: bool,
     pub changed: usize,
     pub lined: usize,
     pub over: bool,
+    pub logged: usize,
 }
 
-// One round of both tables, which have the same cells before it and after it.
+// One round of both tables, which have the same cells before it and after it. It is logged before the copy of its raised cells, since then both tables differ.
 fn make_round(
     plan: &[u8],
     marks: &[u8; 256],
@@ -91,17 +101,21 @@ fn make_round(
     mask: usize,
     set: usize,
     last: Round,
+    log: &mut [u64],
 ) -> Round
-    requires { RoundReady plan.now marks.now horizon first.old second.old lists.old counts.old notes.old noted.old rows.now width mask set last }
+    requires round_ready { RoundReady plan.now marks.now horizon first.old second.old lists.old counts.old notes.old noted.old rows.now width mask set last }
+    requires logged_in_bounds { last.logged ≤ length log.old }
     ensures round_made { RoundMade (plan_with plan.now horizon) (moments first) (moments second) lists.new counts.new noted.new result }
-    ensures same_length { SameLength lists × SameLength counts × SameLength notes × SameLength noted }
+    ensures round_logged { RoundLogged (plan_with plan.now horizon) first.old log.old last.logged log.new result.logged }
+    ensures same_length { SameLength lists × SameLength counts × SameLength notes × SameLength noted × SameLength log }
 {
     let n = points(plan);
     next_round(
         plan, marks, horizon, first, second, lists, counts, rows, notes, noted, width, mask, set,
         last.over,
     );
-    let changed = settle(
+    let logged = log_round(first, second, noted, log, last.logged, n, width);
+    let settled = settle(
         second,
         first,
         notes,
@@ -111,24 +125,41 @@ fn make_round(
         n,
         width,
         set | last.changed,
+        last.lined,
+        horizon,
     );
+    let changed = settled.changed;
+    let waits = waits_after(last.waits, changed);
     Round {
-        stops: stops(first, second, n, width, last.stops, changed, set),
+        stops: stops(first, second, lists, counts, n, width, waits, changed, set),
+        waits: waits,
         changed: changed,
-        lined: lined_after(counts, n, changed, last.lined),
-        over: over_horizon(second, lists, counts, n, width, changed, horizon),
+        lined: settled.lined,
+        over: settled.over,
+        logged: logged,
     }
 }
 
 // The answer of the round that stopped.
-fn ending(table: &[u32], width: usize, made: u64) -> Answer
-    requires { width ≤ length table.now }
-    ensures { outcome_of result ≡ pick (any_above (take width table.now)) (broken made) (kept made) }
+fn ending(waits: bool, made: u64) -> Answer
+    ensures { outcome_of result ≡ pick waits (broken made) (kept made) }
 {
-    if first_alarm_waits(table, width) {
+    if waits {
         return Answer::Broken(made);
     }
     Answer::Kept(made)
+}
+
+// Whether the first alarm waits before the first round. In a table of zeros it does not.
+fn waits_first(first: &[u32], width: usize, zeros: bool) -> bool
+    requires width_in_bounds { width ≤ length first.now }
+    requires first_value { zeros ≡ true → any_above (take width first.now) ≡ false }
+    ensures { result ≡ any_above (take width first.now) }
+{
+    if zeros {
+        return false;
+    }
+    first_alarm_waits(first, width)
 }
 
 // Rounds from two tables with the same cells, up to the limit, with what is known of them in the lists.
@@ -143,14 +174,16 @@ fn rounds_from(
     counts: &mut [usize],
     notes: &mut [u16],
     lined: usize,
-    over: bool,
+    zeros: bool,
+    log: &mut [u64],
 ) -> Answer
     requires ready { Ready plan.now marks.now horizon first.old second.old }
     requires room_from { RoomFrom (plan_with plan.now horizon) (take (cells_of (plan_of plan.now)) first.old) }
     requires second_value { take (cells_of (plan_of plan.now)) second.old ≡ take (cells_of (plan_of plan.now)) first.old }
-    requires lists_lent { ListsLent plan.now horizon first.old lists.old counts.old notes.old lined over }
+    requires lists_lent { ListsLent plan.now horizon first.old lists.old counts.old notes.old lined zeros }
     ensures ran { Ran (plan_with plan.now horizon) first.old second.old limit (outcome_of result) first.new second.new }
-    ensures same_length { SameLength lists × SameLength counts × SameLength notes }
+    ensures logged_run { LoggedRun (plan_with plan.now horizon) (take (cells_of (plan_of plan.now)) first.old) (outcome_of result) log.new }
+    ensures same_length { SameLength lists × SameLength counts × SameLength notes × SameLength log }
 {
     let n = points(plan);
     let width = point_width(plan);
@@ -162,10 +195,12 @@ fn rounds_from(
     let givers = find_givers(plan);
     let mut noted = [0usize; 32];
     let mut last = Round {
-        stops: first_alarm_waits(first, width),
+        stops: false,
+        waits: waits_first(first, width, zeros),
         changed: (1 << n) - 1,
         lined: lined,
-        over: over,
+        over: !zeros,
+        logged: 0,
     };
     let mut made = 0;
     while made < limit {
@@ -173,10 +208,10 @@ fn rounds_from(
         let set = points_to_fill(&dependents, n, last.changed, last.lined, givers, last.over);
         last = make_round(
             plan, marks, horizon, first, second, lists, counts, notes, &mut noted, &rows, width,
-            mask, set, last,
+            mask, set, last, log,
         );
         if last.stops {
-            return ending(second, width, made);
+            return ending(last.waits, made);
         }
     }
     Answer::Spent(made)
@@ -203,8 +238,8 @@ fn first_lists(
     (1 << n) - 1
 }
 
-// Rounds with lists of four sizes, so that small plans pay nothing for large ones.
-fn run_tiny(
+// Rounds with room for their lists.
+fn run_in(
     plan: &[u8],
     marks: &[u8; 256],
     horizon: u64,
@@ -212,30 +247,57 @@ fn run_tiny(
     second: &mut [u32],
     limit: u64,
     zeros: bool,
+    lists: &mut [u16],
+    notes: &mut [u16],
+    log: &mut [u64],
+) -> Answer
+    requires { RunLent plan.now marks.now horizon first.old second.old zeros × ListRoom (plan_of plan.now) lists.old notes.old }
+    ensures ran { Ran (plan_with plan.now horizon) first.old second.old limit (outcome_of result) first.new second.new }
+    ensures logged_run { LoggedRun (plan_with plan.now horizon) (take (cells_of (plan_of plan.now)) first.old) (outcome_of result) log.new }
+    ensures same_length { SameLength lists × SameLength notes × SameLength log }
+{
+    let mut counts = [1usize; 64];
+    let lined = first_lists(plan, first, lists, &mut counts, zeros);
+    rounds_from(
+        plan,
+        marks,
+        horizon,
+        first,
+        second,
+        limit,
+        lists,
+        &mut counts,
+        notes,
+        lined,
+        zeros,
+        log,
+    )
+}
+
+// Rounds with lists of seven sizes, so that small plans pay nothing for large ones.
+fn run_64(
+    plan: &[u8],
+    marks: &[u8; 256],
+    horizon: u64,
+    first: &mut [u32],
+    second: &mut [u32],
+    limit: u64,
+    zeros: bool,
+    log: &mut [u64],
 ) -> Answer
     requires { RunLent plan.now marks.now horizon first.old second.old zeros × (cells_of (plan_of plan.now) ≤ 64) }
-    ensures { Ran (plan_with plan.now horizon) first.old second.old limit (outcome_of result) first.new second.new }
+    ensures ran { Ran (plan_with plan.now horizon) first.old second.old limit (outcome_of result) first.new second.new }
+    ensures logged_run { LoggedRun (plan_with plan.now horizon) (take (cells_of (plan_of plan.now)) first.old) (outcome_of result) log.new }
+    ensures same_length { SameLength log }
 {
     let mut lists = [0u16; 128];
     let mut notes = [0u16; 64];
-    let mut counts = [1usize; 64];
-    let lined = first_lists(plan, first, &mut lists, &mut counts, zeros);
-    rounds_from(
-        plan,
-        marks,
-        horizon,
-        first,
-        second,
-        limit,
-        &mut lists,
-        &mut counts,
-        &mut notes,
-        lined,
-        !zeros,
+    run_in(
+        plan, marks, horizon, first, second, limit, zeros, &mut lists, &mut notes, log,
     )
 }
 
-fn run_small(
+fn run_128(
     plan: &[u8],
     marks: &[u8; 256],
     horizon: u64,
@@ -243,30 +305,65 @@ fn run_small(
     second: &mut [u32],
     limit: u64,
     zeros: bool,
+    log: &mut [u64],
+) -> Answer
+    requires { RunLent plan.now marks.now horizon first.old second.old zeros × (cells_of (plan_of plan.now) ≤ 128) }
+    ensures ran { Ran (plan_with plan.now horizon) first.old second.old limit (outcome_of result) first.new second.new }
+    ensures logged_run { LoggedRun (plan_with plan.now horizon) (take (cells_of (plan_of plan.now)) first.old) (outcome_of result) log.new }
+    ensures same_length { SameLength log }
+{
+    let mut lists = [0u16; 256];
+    let mut notes = [0u16; 128];
+    run_in(
+        plan, marks, horizon, first, second, limit, zeros, &mut lists, &mut notes, log,
+    )
+}
+
+fn run_256(
+    plan: &[u8],
+    marks: &[u8; 256],
+    horizon: u64,
+    first: &mut [u32],
+    second: &mut [u32],
+    limit: u64,
+    zeros: bool,
+    log: &mut [u64],
+) -> Answer
+    requires { RunLent plan.now marks.now horizon first.old second.old zeros × (cells_of (plan_of plan.now) ≤ 256) }
+    ensures ran { Ran (plan_with plan.now horizon) first.old second.old limit (outcome_of result) first.new second.new }
+    ensures logged_run { LoggedRun (plan_with plan.now horizon) (take (cells_of (plan_of plan.now)) first.old) (outcome_of result) log.new }
+    ensures same_length { SameLength log }
+{
+    let mut lists = [0u16; 512];
+    let mut notes = [0u16; 256];
+    run_in(
+        plan, marks, horizon, first, second, limit, zeros, &mut lists, &mut notes, log,
+    )
+}
+
+fn run_512(
+    plan: &[u8],
+    marks: &[u8; 256],
+    horizon: u64,
+    first: &mut [u32],
+    second: &mut [u32],
+    limit: u64,
+    zeros: bool,
+    log: &mut [u64],
 ) -> Answer
     requires { RunLent plan.now marks.now horizon first.old second.old zeros × (cells_of (plan_of plan.now) ≤ 512) }
-    ensures { Ran (plan_with plan.now horizon) first.old second.old limit (outcome_of result) first.new second.new }
+    ensures ran { Ran (plan_with plan.now horizon) first.old second.old limit (outcome_of result) first.new second.new }
+    ensures logged_run { LoggedRun (plan_with plan.now horizon) (take (cells_of (plan_of plan.now)) first.old) (outcome_of result) log.new }
+    ensures same_length { SameLength log }
 {
     let mut lists = [0u16; 1024];
     let mut notes = [0u16; 512];
-    let mut counts = [1usize; 64];
-    let lined = first_lists(plan, first, &mut lists, &mut counts, zeros);
-    rounds_from(
-        plan,
-        marks,
-        horizon,
-        first,
-        second,
-        limit,
-        &mut lists,
-        &mut counts,
-        &mut notes,
-        lined,
-        !zeros,
+    run_in(
+        plan, marks, horizon, first, second, limit, zeros, &mut lists, &mut notes, log,
     )
 }
 
-fn run_middle(
+fn run_1024(
     plan: &[u8],
     marks: &[u8; 256],
     horizon: u64,
@@ -274,30 +371,43 @@ fn run_middle(
     second: &mut [u32],
     limit: u64,
     zeros: bool,
+    log: &mut [u64],
+) -> Answer
+    requires { RunLent plan.now marks.now horizon first.old second.old zeros × (cells_of (plan_of plan.now) ≤ 1024) }
+    ensures ran { Ran (plan_with plan.now horizon) first.old second.old limit (outcome_of result) first.new second.new }
+    ensures logged_run { LoggedRun (plan_with plan.now horizon) (take (cells_of (plan_of plan.now)) first.old) (outcome_of result) log.new }
+    ensures same_length { SameLength log }
+{
+    let mut lists = [0u16; 2048];
+    let mut notes = [0u16; 1024];
+    run_in(
+        plan, marks, horizon, first, second, limit, zeros, &mut lists, &mut notes, log,
+    )
+}
+
+fn run_2048(
+    plan: &[u8],
+    marks: &[u8; 256],
+    horizon: u64,
+    first: &mut [u32],
+    second: &mut [u32],
+    limit: u64,
+    zeros: bool,
+    log: &mut [u64],
 ) -> Answer
     requires { RunLent plan.now marks.now horizon first.old second.old zeros × (cells_of (plan_of plan.now) ≤ 2048) }
-    ensures { Ran (plan_with plan.now horizon) first.old second.old limit (outcome_of result) first.new second.new }
+    ensures ran { Ran (plan_with plan.now horizon) first.old second.old limit (outcome_of result) first.new second.new }
+    ensures logged_run { LoggedRun (plan_with plan.now horizon) (take (cells_of (plan_of plan.now)) first.old) (outcome_of result) log.new }
+    ensures same_length { SameLength log }
 {
     let mut lists = [0u16; 4096];
     let mut notes = [0u16; 2048];
-    let mut counts = [1usize; 64];
-    let lined = first_lists(plan, first, &mut lists, &mut counts, zeros);
-    rounds_from(
-        plan,
-        marks,
-        horizon,
-        first,
-        second,
-        limit,
-        &mut lists,
-        &mut counts,
-        &mut notes,
-        lined,
-        !zeros,
+    run_in(
+        plan, marks, horizon, first, second, limit, zeros, &mut lists, &mut notes, log,
     )
 }
 
-fn run_large(
+fn run_16384(
     plan: &[u8],
     marks: &[u8; 256],
     horizon: u64,
@@ -305,26 +415,17 @@ fn run_large(
     second: &mut [u32],
     limit: u64,
     zeros: bool,
+    log: &mut [u64],
 ) -> Answer
     requires { RunLent plan.now marks.now horizon first.old second.old zeros × (cells_of (plan_of plan.now) ≤ 16384) }
-    ensures { Ran (plan_with plan.now horizon) first.old second.old limit (outcome_of result) first.new second.new }
+    ensures ran { Ran (plan_with plan.now horizon) first.old second.old limit (outcome_of result) first.new second.new }
+    ensures logged_run { LoggedRun (plan_with plan.now horizon) (take (cells_of (plan_of plan.now)) first.old) (outcome_of result) log.new }
+    ensures same_length { SameLength log }
 {
     let mut lists = [0u16; 32768];
     let mut notes = [0u16; 16384];
-    let mut counts = [1usize; 64];
-    let lined = first_lists(plan, first, &mut lists, &mut counts, zeros);
-    rounds_from(
-        plan,
-        marks,
-        horizon,
-        first,
-        second,
-        limit,
-        &mut lists,
-        &mut counts,
-        &mut notes,
-        lined,
-        !zeros,
+    run_in(
+        plan, marks, horizon, first, second, limit, zeros, &mut lists, &mut notes, log,
     )
 }
 
@@ -337,19 +438,31 @@ pub fn rounds_to(
     second: &mut [u32],
     limit: u64,
     zeros: bool,
+    log: &mut [u64],
 ) -> Answer
     requires { RunLent plan.now marks.now horizon first.old second.old zeros }
-    ensures { Ran (plan_with plan.now horizon) first.old second.old limit (outcome_of result) first.new second.new }
+    ensures ran { Ran (plan_with plan.now horizon) first.old second.old limit (outcome_of result) first.new second.new }
+    ensures logged_run { LoggedRun (plan_with plan.now horizon) (take (cells_of (plan_of plan.now)) first.old) (outcome_of result) log.new }
+    ensures same_length { SameLength log }
 {
     let end = cells(plan);
     if end <= 64 {
-        return run_tiny(plan, marks, horizon, first, second, limit, zeros);
+        return run_64(plan, marks, horizon, first, second, limit, zeros, log);
+    }
+    if end <= 128 {
+        return run_128(plan, marks, horizon, first, second, limit, zeros, log);
+    }
+    if end <= 256 {
+        return run_256(plan, marks, horizon, first, second, limit, zeros, log);
     }
     if end <= 512 {
-        return run_small(plan, marks, horizon, first, second, limit, zeros);
+        return run_512(plan, marks, horizon, first, second, limit, zeros, log);
+    }
+    if end <= 1024 {
+        return run_1024(plan, marks, horizon, first, second, limit, zeros, log);
     }
     if end <= 2048 {
-        return run_middle(plan, marks, horizon, first, second, limit, zeros);
+        return run_2048(plan, marks, horizon, first, second, limit, zeros, log);
     }
-    run_large(plan, marks, horizon, first, second, limit, zeros)
+    run_16384(plan, marks, horizon, first, second, limit, zeros, log)
 }

@@ -5,5 +5,5 @@ use Rattle.rounds_making.proofs.making.rounds_to.Goals as goal
 pub cells-end-requires : goal.cells-end-requires
 cells-end-requires c = sizes_few c.args.plan.now c.requires.ready.accepted
 
-pub run_large-requires : goal.run_large-requires
-run_large-requires c = (c.requires, (accepted_bounded c.args.plan.now c.requires.ready.accepted).cells_in)
+pub run_16384-requires : goal.run_16384-requires
+run_16384-requires c = (c.requires, (accepted_bounded c.args.plan.now c.requires.ready.accepted).cells_in)

@@ -1,15 +1,12 @@
 -- Each test in turn, and the walk where no point changed.
-use Rattle.rounds_making.proofs.OneRound.{stops_waiting, stops_first, stops_not, stops_walk}
+use Rattle.rounds_making.proofs.OneRound.{stops_waiting, stops_not, stops_walk}
 use Rattle.rounds_making.proofs.making.stops.Goals as goal
 
 pub returns-then-waits : goal.returns-then-waits
 returns-then-waits c = stops_waiting _ _ _ c.if-waits.true
 
 pub returns-then-changed-ne0 : goal.returns-then-changed-ne0
-returns-then-changed-ne0 c = stops_first _ _ _ c.if-waits.false c.if-changed-ne0.true
-
-pub returns-then-changed-ne0-2 : goal.returns-then-changed-ne0-2
-returns-then-changed-ne0-2 c = stops_not _ _ _ c.if-waits.false c.if-changed-ne0.false c.if-changed-ne0-2.true
+returns-then-changed-ne0 c = stops_not _ _ _ c.if-waits.false c.if-changed-ne0.true
 
 pub returns : goal.returns
-returns c = stops_walk _ _ _ _ c.if-waits.false c.if-changed-ne0.false c.if-changed-ne0-2.false c.same_cells.ensures
+returns c = stops_walk _ _ _ _ c.if-waits.false c.if-changed-ne0.false c.same_cells.ensures
