@@ -21,11 +21,11 @@ use Rattle.rounds_making.proofs.TableLengths.{table_length}
 use Rattle.listing_lines.specs.Listed.{table, cell_lines, raised_lines, lines_to, listing_lines}
 
 module _ (P : Plan) (T U : List ℕ) where
-  pub raised_counted : (c : ℕ) → get_or T c 0 < get_or U c 0 → length (raised_lines P T U (suc c)) ≡ suc (length (raised_lines P T U c))
+  raised_counted : (c : ℕ) → get_or T c 0 < get_or U c 0 → length (raised_lines P T U (suc c)) ≡ suc (length (raised_lines P T U c))
   unfolding raised_lines cell_lines
   raised_counted c h = rw (lt-ltb (get_or T c 0) (get_or U c 0) h) (length-append (raised_lines P T U c) (line_at P U c ∷ []) ∙ omega arith)
 
-  pub raised_passed : (c : ℕ) → get_or U c 0 ≤ get_or T c 0 → length (raised_lines P T U (suc c)) ≡ length (raised_lines P T U c)
+  raised_passed : (c : ℕ) → get_or U c 0 ≤ get_or T c 0 → length (raised_lines P T U (suc c)) ≡ length (raised_lines P T U c)
   unfolding raised_lines cell_lines
   raised_passed c h = rw (le-ltb (get_or T c 0) (get_or U c 0) h) (length-append (raised_lines P T U c) [] ∙ omega arith)
 
@@ -36,7 +36,7 @@ module _ (P : Plan) (T U : List ℕ) where
       go (yes h) = omega (arith, raised_counted c h)
       go (no h) = let k : get_or U c 0 ≤ get_or T c 0 = omega arith in omega (arith, raised_passed c k)
 
-  pub raised_within : (c n : ℕ) → length (raised_lines P T U c) ≤ length (raised_lines P T U (c + n))
+  raised_within : (c n : ℕ) → length (raised_lines P T U c) ≤ length (raised_lines P T U (c + n))
   raised_within c zero = let e : c + 0 ≡ c = omega arith in rw e (le_refl _)
   raised_within c (suc n) = let e : c + suc n ≡ suc (c + n) = omega arith in rw e (omega (arith, raised_within c n, raised_grows (c + n)))
 

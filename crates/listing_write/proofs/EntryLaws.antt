@@ -1,5 +1,5 @@
 -- Laws of one line: its ground, and that it is written after the lines before it.
-use mathlib.Core.Path.{◌≡◌, refl, sym, ap, subst, ◌∙◌}
+use mathlib.Core.Path.{◌≡◌, refl, ap, ◌∙◌}
 use mathlib.Core.List.{List, [], ◌∷◌}
 use Prim.Native.Nat.{ℕ, ◌<◌}
 use native.Mathlib.Omega.{arith}
@@ -10,16 +10,18 @@ use Rattle.plan.proofs.Ranges.{accepted_well_formed}
 use Rattle.rules.specs.declared.Ground.{Ground}
 use Rattle.rules.specs.declared.Line.{Line}
 use Rattle.rules.specs.Lines.{line_at}
+use Rattle.rules.specs.Tables.{next}
 use Rattle.rules.specs.Derivations.{InPlan}
 use Rattle.rules.proofs.Cells.{at_range}
 use Rattle.rules_ground.specs.declared.Found.{Found}
 use Rattle.rules_ground.specs.declared.Found.TheVariants.{At, Nothing}
-use Rattle.rules_ground.specs.Grounds.{Grounds, Tells}
+use Rattle.rules_ground.specs.Frames.{line_with}
+use Rattle.rules_ground.specs.Grounds.{Tells}
 use Rattle.rules_ground.proofs.RaisedCells.{raised_grounded}
 use Rattle.listing_write.specs.Entry.{LinePut}
 use Rattle.listing_write.specs.Progress.{Appended}
 use Rattle.listing_write.proofs.Appending.{append_one}
-use Rattle.listing_write.specs.Entries.{FoundIn, PutFound, PutBy, RoundToList}
+use Rattle.listing_write.specs.Entries.{FoundIn, PutFound, PutBy, CellReady}
 
 -- ---- what was found
 module _ (P : Plan) where
@@ -37,16 +39,18 @@ module _ (P : Plan) where
   found_in T k Nothing t = tt
 
 -- ---- a raised cell's line
-module _ (plan marks : List ℕ) (horizon : ℕ) (first second index out : List ℕ) (m i c : ℕ) (d : RoundToList plan marks horizon first second index out m i) (room : i < m) (inside : c < cells (plan_of plan)) (raised : get_or first c 0 < get_or second c 0) where
-  line_written : (f : Found) (out' : List ℕ) → Tells (plan_of plan) first (line_at (plan_of plan) second c) f → PutFound (plan_of plan) m i (line_at (plan_of plan) second c) index f out out' → Appended (plan_of plan) i (line_at (plan_of plan) second c ∷ []) out out'
+module _ (plan marks : List ℕ) (horizon : ℕ) (first index out : List ℕ) (m i c wait : ℕ) (d : CellReady plan marks horizon first index out m i c wait) where
+  line_written : (f : Found) (out' : List ℕ) → Tells (plan_of plan) first (line_at (plan_of plan) (next (plan_of plan) first) c) f → PutFound (plan_of plan) m i (line_at (plan_of plan) (next (plan_of plan) first) c) index f out out' → Appended (plan_of plan) i (line_at (plan_of plan) (next (plan_of plan) first) c ∷ []) out out'
   line_written (At g) out' t p =
       let P = plan_of plan in
-      let wf = accepted_well_formed plan d.exact.accepted in
-      append_one P (omega (arith, wf.two)) first index out out' m i (line_at P second c) g d.numbers t room p (at_range P second c inside)
+      let wf = accepted_well_formed plan d.made.lent.accepted in
+      append_one P (omega (arith, wf.two)) first index out out' m i (line_at P (next P first) c) g d.made.numbers t d.room p (at_range P (next P first) c d.raised.inside)
   line_written Nothing out' t p =
       let P = plan_of plan in
-      let g = raised_grounded P (accepted_well_formed plan d.exact.accepted) first d.exact.first_length c inside (λ e. let z : get_or second c 0 ≡ get_or first c 0 = ap (λ (x : List ℕ). get_or x c 0) d.is_next ∙ e in absurd (omega arith)) in
-      absurd (t g.ground (subst (λ (U : List ℕ). Grounds P first (line_at P U c) g.ground) (sym d.is_next) g.grounds))
+      let g = raised_grounded P (accepted_well_formed plan d.made.lent.accepted) first d.made.lent.long c d.raised.inside (λ e. absurd (omega (arith, d.raised.wait_is, d.raised.above))) in
+      absurd (t g.ground g.grounds)
 
-  pub raised_listed : (l : Line) (f : Found) (out' : List ℕ) → l ≡ line_at (plan_of plan) second c → Tells (plan_of plan) first l f → PutBy (plan_of plan) m i l index f out out' → Appended (plan_of plan) i (line_at (plan_of plan) second c ∷ []) out out'
-  raised_listed l f out' e t p = line_written f out' (rw e at t) (rw e at p.put)
+  pub raised_listed : (l : Line) (f : Found) (out' : List ℕ) → l ≡ line_with (plan_of plan) c wait → Tells (plan_of plan) first l f → PutBy (plan_of plan) m i l index f out out' → Appended (plan_of plan) i (line_at (plan_of plan) (next (plan_of plan) first) c ∷ []) out out'
+  raised_listed l f out' e t p =
+      let k : l ≡ line_at (plan_of plan) (next (plan_of plan) first) c = e ∙ ap (line_with (plan_of plan) c) d.raised.wait_is in
+      line_written f out' (rw k at t) (rw k at p.put)

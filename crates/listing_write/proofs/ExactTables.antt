@@ -1,28 +1,22 @@
--- Tables of just a plan's cells: what a round, a copy and a clearing leave there; and the tables up to the round in which a plan breaks leave room for a duration.
-use mathlib.Core.Path.{◌≡◌, sym, ap, ap₂, ◌∙◌}
+-- Tables of just a plan's cells: what a copy and a clearing leave there; and the tables up to the round in which a plan breaks leave room for a duration.
+use mathlib.Core.Path.{◌≡◌, sym, ap, ◌∙◌}
 use mathlib.Core.List.{List, ◌++◌, append-nil}
 use Prim.Native.Nat.{ℕ, suc, ◌-◌, ◌≤◌}
 use native.Mathlib.Decide.{dec_le}
 use native.Mathlib.Omega.{arith}
-use lib.ListN.{length, get_or, take, drop, replicate, length-replicate, get_or-eq_default}
-use lib.Seq.{take_all, drop-length}
+use lib.ListN.{length, get_or, drop, replicate, length-replicate, get_or-eq_default}
+use lib.Seq.{drop-length}
 use Rattle.plan.specs.Plan.{Plan, cells}
 use Rattle.plan.specs.Layout.{plan_of}
-use Rattle.plan.specs.Horizons.{plan_with}
 use Rattle.plan.specs.Refusal.{Accepted}
 use Rattle.plan.proofs.Ranges.{accepted_well_formed, accepted_bounded}
-use Rattle.plan.proofs.Horizons.{own_horizon}
-use Rattle.rules.specs.Tables.{next}
-use Rattle.rules.proofs.Next.{next_is}
 use Rattle.rules_fill.specs.Parts.{AtMost, laid_over}
-use Rattle.rounds_tables.specs.Ready.{Ready}
 use Rattle.rounds_making.specs.Rounds.{zeros}
 use Rattle.rounds_making.proofs.Stopping.{Running, running_less}
 use Rattle.rounds_making.proofs.TableLengths.{table_length}
 use Rattle.rounds_making.proofs.RoundsMade.{laid_joined}
 use Rattle.rounds.proofs.Small.{table_high}
 use Rattle.listing_lines.specs.Listed.{table, BreaksIn}
-use Rattle.listing_write.specs.Progress.{Exact}
 use Rattle.listing_lines.proofs.Ending.{breaks_facts}
 
 -- ---- laid over a table that has nothing more
@@ -35,27 +29,6 @@ copy_exact n S T T' s t e =
 -- a table was cleared; the code's number n is the cells
 pub clear_exact : (P : Plan) (n : ℕ) (T T' : List ℕ) → n ≡ cells P → length T ≡ cells P → T' ≡ laid_over n (replicate n 0) T → T' ≡ table P 0
 clear_exact P n T T' k t e = copy_exact n (replicate n 0) T T' (length-replicate n 0) (t ∙ sym k) e ∙ ap (λ (m : ℕ). replicate m 0) k
-
--- ---- a round
-module _ (bs M : List ℕ) (h : ℕ) (F G : List ℕ) (x : Exact bs M h F G) where
-  pub exact_ready : Ready bs M h F G
-  exact_ready = record { accepted = x.accepted; marked = x.marked; horizon_far = omega (arith, x.horizon_is); long_first = omega (arith, x.first_length); long_second = omega (arith, x.second_length) }
-
-  -- for the tables that later calls are lent
-  pub exact_on : (F' G' : List ℕ) → length F' ≡ length F → length G' ≡ length G → Exact bs M h F' G'
-  exact_on F' G' f g = record { accepted = x.accepted; marked = x.marked; horizon_is = x.horizon_is; first_length = f ∙ x.first_length; second_length = g ∙ x.second_length }
-
-  all_cells : take (cells (plan_of bs)) F ≡ F
-  all_cells = take_all (cells (plan_of bs)) F (omega (arith, x.first_length))
-
-  pub exact_room : (b : ℕ) → AtMost b F → AtMost b (take (cells (plan_of bs)) F)
-  exact_room b m = rw all_cells m
-
-  pub next_exact : length (next (plan_of bs) F) ≡ cells (plan_of bs)
-  next_exact = (next_is (plan_of bs) (accepted_well_formed bs x.accepted) F x.first_length).as_long ∙ x.first_length
-
-  pub round_exact : (G' : List ℕ) → G' ≡ laid_over (cells (plan_of bs)) (next (plan_with bs h) (take (cells (plan_of bs)) F)) G → G' ≡ next (plan_of bs) F
-  round_exact G' e = copy_exact (cells (plan_of bs)) (next (plan_of bs) F) G G' next_exact x.second_length (e ∙ ap₂ (λ (P : Plan) (l : List ℕ). laid_over (cells (plan_of bs)) (next P l) G) (own_horizon bs h x.horizon_is) all_cells)
 
 -- ---- the tables of a broken plan
 pub breaks_after : (P : Plan) (r : ℕ) → BreaksIn P r → r ≡ suc (r - 1)

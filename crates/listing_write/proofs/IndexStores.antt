@@ -1,65 +1,81 @@
--- Laws of the 16-bit table: the start, and one raised cell's number after another.
-use mathlib.Core.Path.{◌≡◌, refl, sym, ap, ◌∙◌}
+-- Laws of the 16-bit table: the start, and one line's number after another.
+use mathlib.Core.Path.{◌≡◌, refl, sym, ap, subst, ◌∙◌}
 use mathlib.Core.List.{List, [], ◌∷◌, ◌++◌, append-nil, append_assoc}
-use Prim.Native.Nat.{ℕ, suc, ◌+◌, ◌-◌, ◌/◌, ◌%◌, ◌≤◌, ◌<◌}
-use native.Mathlib.Nat.{div-le_self, one-le-mul}
-use native.Mathlib.Decide.{ℕ_discrete}
-use native.Mathlib.Numerals.{add-one}
+use Prim.Native.Nat.{ℕ, suc, ◌+◌, ◌*◌, ◌/◌, ◌%◌, ◌≤◌, ◌<◌}
+use native.Mathlib.Nat.{le_refl, one-le-mul, mul-div_cancel, mul-mod_left, div-add-mod', div-lt_iff_lt-mul}
+use native.Mathlib.Decide.{ℕ_discrete, dec_lt}
 use native.Mathlib.Omega.{arith}
-use borrow.Author.Tests.{lt-ltb, le-ltb, eq-eqb, ne_eqb}
-use lib.Bits.{bit_and}
-use lib.ListN.{length, get_or, set, length-append}
-use lib.Seq.{get_or-set_same, get_or-set_other}
+use borrow.Author.Tests.{eq-eqb, ne_eqb}
+use lib.ListN.{length, get_or, set, take, length-append}
+use lib.Seq.{get_or-set_same, get_or-set_other, length-take-le, take-suc}
 use lib.Pow.{pow_pos}
 use Rattle.plan.specs.Plan.{Plan, width, cells}
-use Rattle.plan.specs.Layout.{plan_of}
-use Rattle.plan.specs.Refusal.{Accepted}
 use Rattle.plan.proofs.LabelLaws.{four_pos}
-use Rattle.plan.proofs.Ranges.{accepted_bounded}
 use Rattle.rules.specs.declared.Line.{Line}
-use Rattle.rules.specs.Lines.{cell_of, line_at}
-use Rattle.rules.proofs.Cells.{cell_at}
-use Rattle.rules_ground.proofs.LineLaws.{width_and}
-use Rattle.listing_lines.specs.Listed.{cell_lines, raised_lines, start_number, index_at, index_table}
+use Rattle.rules.specs.Lines.{cell_of, starting_line}
+use Rattle.rules_fill.proofs.ShapeLaws.{row_in}
+use Rattle.listing_lines.specs.Listed.{start_number, index_at, index_table}
 use Rattle.listing_write.specs.Progress.{Numbered}
 use Rattle.listing_lines.proofs.IndexLaws.{index_by, index_more}
-use Rattle.listing_lines.proofs.LineCounts.{raised_within}
 
 -- ---- the start
--- by a mask, since the width is a power of 2
-start_mask : (P : Plan) (w c : ℕ) → w ≡ width P → bit_and c (w - 1) ≡ c % width P
-start_mask P w c e = rw e (width_and P.links P.propositions c)
+-- one entry more is 0
+pub cleared_more : (c : ℕ) (I : List ℕ) → c < length I → ((d : ℕ) → d < c → get_or I d 0 ≡ 0) → (d : ℕ) → d < c + 1 → get_or (set I c 0) d 0 ≡ 0
+cleared_more c I h z d k = go (ℕ_discrete d c)
+  where
+    go : Dec (d ≡ c) → get_or (set I c 0) d 0 ≡ 0
+    go (yes e) = ap (λ (y : ℕ). get_or (set I c 0) y 0) e ∙ get_or-set_same I c 0 0 h
+    go (no e) = get_or-set_other I c d 0 0 e ∙ z d (omega arith)
 
-pub start_other : (P : Plan) (w c : ℕ) → w ≡ width P → (bit_and c (w - 1) ≡ 0 → ⊥) → 0 ≡ start_number P c
-start_other P w c e h = rw (ne_eqb (c % width P) 0 (λ q. h (start_mask P w c e ∙ q))) refl
-
-pub start_point : (P : Plan) (w c : ℕ) → w ≡ width P → bit_and c (w - 1) ≡ 0 → c / w ≡ start_number P c
-start_point P w c e h = rw (eq-eqb (c % width P) 0 (sym (start_mask P w c e) ∙ h), e) refl
-
-pub quotient_fits : (c w n : ℕ) → c < n → c / w < n
-quotient_fits c w n h = omega (arith, div-le_self c w)
-
-pub width_pos : (P : Plan) (w : ℕ) → w ≡ width P → 0 < w
-width_pos P w e = rw e (one-le-mul (pow_pos _) (four_pos _))
-
--- the first c cells have their starting numbers
-pub record Started (P : Plan) (c : ℕ) (I : List ℕ) : Type 0 where
-  pub number : (d : ℕ) → d < c → get_or I d 0 ≡ start_number P d
+-- the points below x have their starting numbers; the cells from there on are 0
+pub record Started (P : Plan) (w x : ℕ) (I : List ℕ) : Type 0 where
+  pub number : (d : ℕ) → d < cells P → d / w < x → get_or I d 0 ≡ start_number P d
+  pub none : (d : ℕ) → d < cells P → x ≤ d / w → get_or I d 0 ≡ 0
 
 module _ (P : Plan) where
-  pub started_none : (I : List ℕ) → Started P 0 I
-  started_none I = record { number = λ d h. absurd (omega arith) }
+  pub width_pos : (w : ℕ) → w ≡ width P → 0 < w
+  width_pos w e = rw e (one-le-mul (pow_pos _) (four_pos _))
 
-  pub started_more : (c v : ℕ) (I J : List ℕ) → c < length I → v ≡ start_number P c → J ≡ set I c v → Started P c I → Started P (c + 1) J
-  started_more c v I J h e q s = record { number = λ d k. ap (λ (x : List ℕ). get_or x d 0) q ∙ go d k (ℕ_discrete d c) }
+  -- a point's starting cell is one of the cells
+  pub start_in : (w x : ℕ) → w ≡ width P → x < P.points → x * w < cells P
+  start_in w x e h = let p = width_pos w e in let r = row_in P x (cells P) w x h (le_refl (cells P)) e refl in omega arith
+
+  pub started_none : (w n : ℕ) (I : List ℕ) → n ≡ cells P → ((c : ℕ) → c < n → get_or I c 0 ≡ 0) → Started P w 0 I
+  started_none w n I e z = record { number = λ d h k. absurd (omega arith); none = λ d h k. z d (omega arith) }
+
+  pub started_more : (w x : ℕ) (I J : List ℕ) → w ≡ width P → x * w < length I → J ≡ set I (x * w) x → Started P w x I → Started P w (x + 1) J
+  started_more w x I J e h q s = record { number = λ d i k. ap (λ (l : List ℕ). get_or l d 0) q ∙ number d i k (ℕ_discrete d (x * w)); none = λ d i k. ap (λ (l : List ℕ). get_or l d 0) q ∙ none d i k (ℕ_discrete d (x * w)) }
     where
-      go : (d : ℕ) → d < c + 1 → Dec (d ≡ c) → get_or (set I c v) d 0 ≡ start_number P d
-      go d k (yes z) = ap (λ (x : ℕ). get_or (set I c v) x 0) z ∙ get_or-set_same I c v 0 h ∙ e ∙ ap (start_number P) (sym z)
-      go d k (no z) = get_or-set_other I c d v 0 z ∙ s.number d (omega arith)
+      start : x * w / w ≡ x
+      start = mul-div_cancel x (width_pos w e)
 
-  pub started_all : (c : ℕ) (I : List ℕ) → c ≡ cells P → length I ≡ cells P → Started P c I → I ≡ index_table P []
+      -- where the width divides a number, that is its starting number; else 0 is
+      divides : (d : ℕ) → d % w ≡ 0 → start_number P d ≡ d / w
+      divides d k = rw (eq-eqb (d % width P) 0 (rw e at k), e) refl
+
+      leaves : (d : ℕ) → (d % w ≡ 0 → ⊥) → start_number P d ≡ 0
+      leaves d k = rw (ne_eqb (d % width P) 0 (λ z. k (rw e z))) refl
+
+      within : (d : ℕ) → d < cells P → d / w < x + 1 → (d ≡ x * w → ⊥) → Dec (d / w < x) → get_or I d 0 ≡ start_number P d
+      within d i k z (yes l) = s.number d i l
+      within d i k z (no l) =
+          let same : d / w ≡ x = omega arith in
+          s.none d i (omega arith) ∙ sym (leaves d (λ m. z (sym (div-add-mod' d w) ∙ omega (arith, ap (λ (y : ℕ). y * w) same))))
+
+      number : (d : ℕ) → d < cells P → d / w < x + 1 → Dec (d ≡ x * w) → get_or (set I (x * w) x) d 0 ≡ start_number P d
+      number d i k (yes z) = ap (λ (y : ℕ). get_or (set I (x * w) x) y 0) z ∙ get_or-set_same I (x * w) x 0 h ∙ sym (divides d (ap (λ (y : ℕ). y % w) z ∙ mul-mod_left x w) ∙ ap (λ (y : ℕ). y / w) z ∙ start)
+      number d i k (no z) = get_or-set_other I (x * w) d x 0 z ∙ within d i k z (dec_lt (d / w) x)
+
+      none : (d : ℕ) → d < cells P → x + 1 ≤ d / w → Dec (d ≡ x * w) → get_or (set I (x * w) x) d 0 ≡ 0
+      none d i k (yes z) = absurd (omega (arith, ap (λ (y : ℕ). y / w) z, start))
+      none d i k (no z) = get_or-set_other I (x * w) d x 0 z ∙ s.none d i (omega arith)
+
+  pub started_all : (w x : ℕ) (I : List ℕ) → w ≡ width P → x ≡ P.points → length I ≡ cells P → Started P w x I → I ≡ index_table P []
   unfolding index_at
-  started_all c I e l s = index_by P [] I l (λ d h. s.number d (omega arith))
+  started_all w x I e ex l s = index_by P [] I l (λ d h. s.number d h ((div-lt_iff_lt-mul (width_pos w e)).1 (rw (ex, e) (in_cells d h))))
+    where
+      in_cells : (d : ℕ) → d < cells P → d < P.points * width P
+      in_cells d h = omega (arith, h)
 
   -- ---- the numbers of a round
   pub numbered_none : (at : ℕ) (I : List ℕ) → Numbered P at [] I I
@@ -72,33 +88,7 @@ module _ (P : Plan) where
   pub numbered_one : (at c v : ℕ) (l : Line) (I J : List ℕ) → cell_of P l ≡ c → c < cells P → v ≡ P.points + at → J ≡ set I c v → Numbered P at (l ∷ []) I J
   numbered_one at c v l I J k h e q = record { numbers = λ ls n z. q ∙ index_more P ls l I c v k h (e ∙ ap (λ (x : ℕ). P.points + x) (sym n)) z }
 
-  module _ (T U : List ℕ) where
-    pub number_start : (at : ℕ) (I : List ℕ) → (P.points + at ≡ P.points + at + length (raised_lines P T U 0)) × Numbered P at (raised_lines P T U 0) I I
-    unfolding raised_lines
-    number_start at I = (omega arith, numbered_none at I)
-
-    pub cell_unnumbered : (at i c : ℕ) (I : List ℕ) → get_or U c 0 ≤ get_or T c 0 → (i ≡ i + length (cell_lines P T U c)) × Numbered P at (cell_lines P T U c) I I
-    unfolding cell_lines
-    cell_unnumbered at i c I h = rw (le-ltb (get_or T c 0) (get_or U c 0) h) (omega arith, numbered_none at I)
-
-    pub cell_counted : (i c : ℕ) → get_or T c 0 < get_or U c 0 → i + 1 ≡ i + length (cell_lines P T U c)
-    unfolding cell_lines
-    cell_counted i c h = rw (lt-ltb (get_or T c 0) (get_or U c 0) h) refl
-
-    pub cell_numbered : (at i c : ℕ) (I J : List ℕ) → get_or T c 0 < get_or U c 0 → i ≡ P.points + at → c < cells P → J ≡ set I c i → Numbered P at (cell_lines P T U c) I J
-    unfolding cell_lines
-    cell_numbered at i c I J h e k q = rw (lt-ltb (get_or T c 0) (get_or U c 0) h) (numbered_one at c i (line_at P U c) I J (cell_at P U c) k e q)
-
-    pub numbered_more : (at i n c : ℕ) (I J K : List ℕ) → i ≡ P.points + at + length (raised_lines P T U c) → n ≡ i + length (cell_lines P T U c) → Numbered P at (raised_lines P T U c) I J → Numbered P (at + length (raised_lines P T U c)) (cell_lines P T U c) J K
-        → (n ≡ P.points + at + length (raised_lines P T U (c + 1))) × Numbered P at (raised_lines P T U (c + 1)) I K
-    unfolding raised_lines
-    numbered_more at i n c I J K e f s t =
-        let k : c + 1 ≡ suc c = add-one c in
-        (rw k (omega (arith, length-append (raised_lines P T U c) (cell_lines P T U c))), rw k (numbered_then at (at + length (raised_lines P T U c)) (raised_lines P T U c) (cell_lines P T U c) I J K refl s t))
-
--- the numbers of at most 4,096 lines fit 16 bits
-pub number_fits : (bs : List ℕ) → Accepted bs → (T U : List ℕ) (at c : ℕ) → c ≤ cells (plan_of bs) → at + length (raised_lines (plan_of bs) T U (cells (plan_of bs))) ≤ 4096 → (plan_of bs).points + at + length (raised_lines (plan_of bs) T U c) < 65536
-number_fits bs a T U at c h k =
-    let z : c + (cells (plan_of bs) - c) ≡ cells (plan_of bs) = omega arith in
-    let w = raised_within (plan_of bs) T U c (cells (plan_of bs) - c) in
-    omega (arith, rw z at w, (accepted_bounded bs a).points_in)
+  -- of some lines one more
+  pub numbered_more : (at j c v : ℕ) (ks : List Line) (l : Line) (I J K : List ℕ) → j < length ks → get_or ks j (starting_line 0) ≡ l → cell_of P l ≡ c → c < cells P → v ≡ P.points + at + j → K ≡ set J c v → Numbered P at (take j ks) I J → Numbered P at (take (suc j) ks) I K
+  numbered_more at j c v ks l I J K h k e inside ev q s =
+      subst (λ (x : List Line). Numbered P at x I K) (ap (λ (x : Line). take j ks ++ (x ∷ [])) (sym k) ∙ sym (take-suc ks j (starting_line 0) h)) (numbered_then at (at + j) (take j ks) (l ∷ []) I J K (ap (λ (x : ℕ). at + x) (sym (length-take-le j ks (omega arith)))) s (numbered_one (at + j) c v l J K e inside (omega arith) q))

@@ -6,10 +6,11 @@ use Rattle.rules.specs.declared.Ground.{Ground}
 use Rattle.rules.specs.declared.Line.{Line}
 use Rattle.rules.specs.Tables.{next}
 use Rattle.rules.specs.Derivations.{InPlan}
+use Rattle.rules_ground.specs.Grounds.{Searchable}
 use Rattle.rules_ground.specs.declared.Found.{Found}
 use Rattle.rules_ground.specs.declared.Found.TheVariants.{At, Nothing}
 use Rattle.listing_write.specs.Entry.{ListingBytes, LinePut}
-use Rattle.listing_write.specs.Progress.{all_raised, Exact, CellsNumbered}
+use Rattle.listing_write.specs.Progress.{round_lines, RoundToLay, CellsNumbered}
 
 -- what a search found, among the plan's rules and cells
 abbrev pub FoundIn : Plan → Found → Type 0
@@ -33,24 +34,27 @@ PutFound P m i l I Nothing out out' = out' ≡ out
 pub record PutBy (P : Plan) (m i : ℕ) (l : Line) (I : List ℕ) (f : Found) (out out' : List ℕ) : Type 0 where
   pub put : PutFound P m i l I f out out'
 
--- a round from first to second is made, `at` of the m lines are written, and the 16-bit table is that of the round before
-pub record RoundToList (plan marks : List ℕ) (horizon : ℕ) (first second index out : List ℕ) (m at : ℕ) : Type 0 where
-  pub exact : Exact plan marks horizon first second
-  pub is_next : second ≡ next (plan_of plan) first
+-- before a round from the first table: `at` of the m lines are written, and the 16-bit table is that of the round before
+pub record RoundToList (plan marks : List ℕ) (horizon : ℕ) (first index out : List ℕ) (m at : ℕ) : Type 0 where
+  pub lent : Searchable plan marks horizon first
   pub numbers : CellsNumbered (plan_of plan) first index out at
   pub listing : ListingBytes m out
 
--- a round from T to U raised cell c
-abbrev pub Raised : List ℕ → List ℕ → ℕ → Type 0
-Raised T U c = get_or T c 0 < get_or U c 0
+-- the round raises cell c of the first table to a wait
+pub record Raised (P : Plan) (first : List ℕ) (c wait : ℕ) : Type 0 where
+  pub inside : c < cells P
+  pub wait_is : wait ≡ get_or (next P first) c 0
+  pub above : get_or first c 0 < wait
+  pub wait_fits : wait < 4294967296
 
--- room for the line of cell c, should the round have raised it
-pub record CellReady (plan marks : List ℕ) (horizon : ℕ) (first second index out : List ℕ) (m i c : ℕ) : Type 0 where
-  pub made : RoundToList plan marks horizon first second index out m i
+-- room for the line of such a cell
+pub record CellReady (plan marks : List ℕ) (horizon : ℕ) (first index out : List ℕ) (m i c wait : ℕ) : Type 0 where
+  pub made : RoundToList plan marks horizon first index out m i
   pub room : i < m
-  pub inside : c < cells (plan_of plan)
+  pub raised : Raised (plan_of plan) first c wait
 
--- room for the lines of all cells that the round raised, and for one more
-pub record CellsReady (plan marks : List ℕ) (horizon : ℕ) (first second index out : List ℕ) (m at : ℕ) : Type 0 where
-  pub made : RoundToList plan marks horizon first second index out m at
-  pub room : at + length (all_raised (plan_of plan) first second) < m
+-- room for the lines of the round's entries, and for one more
+pub record EntriesReady (plan marks : List ℕ) (horizon : ℕ) (first index out log : List ℕ) (m at from : ℕ) : Type 0 where
+  pub made : RoundToList plan marks horizon first index out m at
+  pub to_lay : RoundToLay plan first index log at from
+  pub room : at + length (round_lines (plan_of plan) first) < m

@@ -1,3 +1,4 @@
+pub mod RoundLog
 pub mod BrokenPlans
 pub mod Entry
 pub mod Progress

@@ -1,5 +1,5 @@
--- For inner contracts only: what the functions that make the rounds again with their lines are lent and leave. Nothing here is to be believed.
-use Rattle.std.specs.Prelude.{◌≡◌, List, [], ◌∷◌, ℕ, suc, ◌+◌, ◌-◌, ◌≤◌, ◌<◌, length, get_or}
+-- For inner contracts only: what the functions that write the lines of all rounds are lent and leave. Nothing here is to be believed.
+use Rattle.std.specs.Prelude.{◌≡◌, List, [], ◌∷◌, ℕ, suc, ◌-◌, ◌≤◌, ◌<◌, length, get_or}
 use Rattle.std.specs.Borrow.{Bor, MutBor}
 use denote.Triple.Both.{Both}
 use Rattle.plan.specs.Plan.{Plan, width, cells}
@@ -8,57 +8,40 @@ use Rattle.plan.specs.Refusal.{Accepted}
 use Rattle.rules.specs.declared.Line.{Line}
 use Rattle.rules.specs.Lines.{line_at}
 use Rattle.rules.specs.Tables.{next}
-use Rattle.rules_fill.specs.Parts.{AtMost}
+use Rattle.rules_ground.specs.Grounds.{Searchable}
+use Rattle.rounds_making.specs.Rounds.{zeros}
+use Rattle.rounds_making.specs.Logs.{log_from}
 use Rattle.listing_lines.specs.Listed.{table, lines_to, lowest_raised, index_table, BreaksIn}
+use Rattle.listing_write.specs.RoundLog.{Begins}
 use Rattle.listing_write.specs.Entry.{ListingBytes}
-use Rattle.listing_write.specs.Progress.{round_lines, Exact, CellsNumbered, Appended, Numbered}
+use Rattle.listing_write.specs.Progress.{Appended, Numbered}
 use Rattle.listing_write.specs.Entries.{RoundToList}
 
 -- the lowest Z cell that the round from T raises
 abbrev pub lowest_of : Plan → List ℕ → ℕ
 lowest_of P T = lowest_raised T (next P T) 0 (width P)
 
--- its line, where U is the round's table
-abbrev pub lowest_line : Plan → List ℕ → List ℕ → List Line
-lowest_line P T U = line_at P U (lowest_of P T) ∷ []
-
+-- its line
 abbrev pub last_line_of : Plan → List ℕ → List Line
-last_line_of P T = lowest_line P T (next P T)
+last_line_of P T = line_at P (next P T) (lowest_of P T) ∷ []
 
 -- there is such a cell
 pub record RaisesFirst (P : Plan) (T : List ℕ) : Type 0 where
   pub in_first : lowest_of P T < width P
   pub is_raised : get_or T (lowest_of P T) 0 < get_or (next P T) (lowest_of P T) 0
 
--- before a round: the cells leave room for a duration, and `at` of the m lines are written
-pub record RoundReady (plan marks : List ℕ) (horizon : ℕ) (first second index out : List ℕ) (m at : ℕ) : Type 0 where
-  pub exact : Exact plan marks horizon first second
-  pub small : AtMost 4000000000 first
-  pub numbers : CellsNumbered (plan_of plan) first index out at
-  pub listing : ListingBytes m out
-
--- with room for the round's lines, and for one more
-pub record RoundRoom (plan marks : List ℕ) (horizon : ℕ) (first second index out : List ℕ) (m at : ℕ) : Type 0 where
-  pub ready : RoundReady plan marks horizon first second index out m at
-  pub room : at + length (round_lines (plan_of plan) first) < m
-
--- before the last round, and after it was made: one line is left, that of a Z cell
+-- before the last round, whose cells the second table has: one line is left, that of a Z cell
 pub record LastReady (plan marks : List ℕ) (horizon : ℕ) (first second index out : List ℕ) (m : ℕ) : Type 0 where
-  pub ready : RoundReady plan marks horizon first second index out m (m - 1)
+  pub made : RoundToList plan marks horizon first index out m (m - 1)
   pub some_line : 1 ≤ m
   pub raises : RaisesFirst (plan_of plan) first
+  pub second_is : second ≡ next (plan_of plan) first
+  pub second_length : length second ≡ cells (plan_of plan)
 
-pub record LowestReady (plan marks : List ℕ) (horizon : ℕ) (first second index out : List ℕ) (m : ℕ) : Type 0 where
-  pub made : RoundToList plan marks horizon first second index out m (m - 1)
-  pub some_line : 1 ≤ m
-  pub raises : RaisesFirst (plan_of plan) first
-
--- a round from T left its table in both tables, and lines ks are written from line `at` on and numbered
-pub record RoundListed (P : Plan) (ks : List Line) (at : ℕ) (T G I out T' G' I' out' : List ℕ) : Type 0 where
+-- a round from T left its table, and lines ks are written from line `at` on and numbered
+pub record RoundListed (P : Plan) (ks : List Line) (at : ℕ) (T I out T' I' out' : List ℕ) : Type 0 where
   pub first_is : T' ≡ next P T
-  pub second_is : G' ≡ next P T
   pub first_length : length T' ≡ length T
-  pub second_length : length G' ≡ length G
   pub index_length : length I' ≡ length I
   pub numbered : Numbered P at ks I I'
   pub written : Appended P at ks out out'
@@ -71,32 +54,32 @@ pub record StartLent (plan first index out : List ℕ) (m : ℕ) : Type 0 where
   pub long : 2 ≤ length out
   pub few : m < 65536
 
--- the start of a listing of m lines of a plan that breaks in the round after r
-pub record ListingStarted (plan marks : List ℕ) (horizon : ℕ) (first second index out : List ℕ) (m r : ℕ) : Type 0 where
-  pub exact : Exact plan marks horizon first second
+-- the start of a listing of m lines of a plan that breaks in the round after r; the log has the entries of r rounds
+pub record ListingStarted (plan marks : List ℕ) (horizon : ℕ) (first index out log : List ℕ) (m r : ℕ) : Type 0 where
+  pub lent : Searchable plan marks horizon first
   pub breaks : BreaksIn (plan_of plan) (suc r)
   pub first_is : first ≡ table (plan_of plan) 0
   pub index_is : index ≡ index_table (plan_of plan) []
   pub lines_are : m ≡ suc (length (lines_to (plan_of plan) r))
   pub listing : ListingBytes m out
+  pub logged : Begins (log_from (plan_of plan) (zeros (plan_of plan)) r) log
 
 -- r rounds from zeros are listed
-pub record RoundsListed (P : Plan) (r : ℕ) (first second index out first' second' index' out' : List ℕ) : Type 0 where
+pub record RoundsListed (P : Plan) (r : ℕ) (first index out first' index' out' : List ℕ) : Type 0 where
   pub first_is : first' ≡ table P r
   pub index_is : index' ≡ index_table P (lines_to P r)
   pub written : Appended P 0 (lines_to P r) out out'
   pub first_length : length first' ≡ length first
-  pub second_length : length second' ≡ length second
   pub index_length : length index' ≡ length index
 
 -- ---- of what is lent to a call
 abbrev Lent : Type 0
 Lent = Both (MutBor (List ℕ)) (MutBor (List ℕ))
 
-abbrev pub ListsRound : {X : Type 0} → Both (Bor (List ℕ)) X → List Line → ℕ → Lent → Lent → Lent → Lent → Type 0
-ListsRound plan ks at first second index out =
-    RoundListed (plan_of plan.entry.now) ks at first.entry.now second.entry.now index.entry.now out.entry.now first.exit.now second.exit.now index.exit.now out.exit.now
+abbrev pub ListsRound : {X : Type 0} → Both (Bor (List ℕ)) X → List Line → ℕ → Lent → Lent → Lent → Type 0
+ListsRound plan ks at first index out =
+    RoundListed (plan_of plan.entry.now) ks at first.entry.now index.entry.now out.entry.now first.exit.now index.exit.now out.exit.now
 
-abbrev pub ListsRounds : {X : Type 0} → Both (Bor (List ℕ)) X → ℕ → Lent → Lent → Lent → Lent → Type 0
-ListsRounds plan r first second index out =
-    RoundsListed (plan_of plan.entry.now) r first.entry.now second.entry.now index.entry.now out.entry.now first.exit.now second.exit.now index.exit.now out.exit.now
+abbrev pub ListsRounds : {X : Type 0} → Both (Bor (List ℕ)) X → ℕ → Lent → Lent → Lent → Type 0
+ListsRounds plan r first index out =
+    RoundsListed (plan_of plan.entry.now) r first.entry.now index.entry.now out.entry.now first.exit.now index.exit.now out.exit.now

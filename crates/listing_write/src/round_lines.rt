@@ -1,4 +1,4 @@
-// The rounds again from zeros, with their lines.
+// The lines of all rounds, from the log of the check.
 ghost use Rattle.std.specs.Prelude.{◌≡◌, [], ◌+◌, ◌-◌, ◌≤◌, length};
 ghost use Rattle.plan.specs.Moments.{SameLength};
 ghost use Rattle.plan.specs.Layout.{plan_of};
@@ -7,13 +7,14 @@ ghost use Rattle.listing_lines.specs.Listed.{table, lowest_raised, listing_lines
 ghost use Rattle.listing_lines.specs.Handed.{Listing};
 ghost use Rattle.listing_write.specs.BrokenPlans.{ListingLent};
 ghost use Rattle.listing_write.specs.Progress.{round_lines, Appends, Numbers};
-ghost use Rattle.listing_write.specs.RoundLines.{lowest_line, last_line_of, RoundRoom, LastReady, LowestReady, StartLent, ListingStarted, ListsRound, ListsRounds};
+ghost use Rattle.listing_write.specs.Entries.{EntriesReady};
+ghost use Rattle.listing_write.specs.RoundLines.{last_line_of, LastReady, StartLent, ListingStarted, ListsRound, ListsRounds};
 
 use crate::bytes::put_word;
-use crate::entries::{list_cells, list_raised};
-use crate::index::{number_cells, put_number, start_index};
-use plan::{cells, horizon as horizon_of, plain_marks, points, width as width_of};
-use rounds_tables::{clear_cells, round};
+use crate::entries::{lay_entries, list_entries, list_raised};
+use crate::index::{put_number, start_index};
+use plan::{cell_at, cells, horizon as horizon_of, plain_marks, points, width as width_of};
+use rounds_tables::clear_cells;
 use rules_fill::copy_cells;
 
 // The lowest of the first cells that the round raised.
@@ -29,29 +30,27 @@ fn lowest(first: &[u32], second: &[u32], width: usize) -> usize
     width
 }
 
-// One round with its lines, from line `at` on; the number of the next line.
-// Its lines have parents of the round before, so its cells are numbered after they are written.
+// One round with its lines, from line `at` on; where its entries in the log end.
+// Its lines have parents of the round before, so its cells are laid over the tables after they are written.
 fn list_round(
     plan: &[u8],
     marks: &[u8; 256],
     horizon: u64,
     first: &mut [u32],
-    second: &mut [u32],
     index: &mut [u16],
     out: &mut [u8],
+    log: &[u64],
     m: usize,
     at: usize,
+    from: usize,
 ) -> usize
-    requires { RoundRoom plan.now marks.now horizon first.old second.old index.old out.old m at }
-    ensures value { result ≡ at + length (round_lines (plan_of plan.now) first.old) }
-    ensures lists_round { ListsRound plan (round_lines (plan_of plan.now) first.old) at first second index out }
+    requires { EntriesReady plan.now marks.now horizon first.old index.old out.old log.now m at from }
+    ensures value { result ≡ from + length (round_lines (plan_of plan.now) first.old) }
+    ensures lists_round { ListsRound plan (round_lines (plan_of plan.now) first.old) at first index out }
 {
-    round(plan, marks, horizon, first, second);
-    let following = list_cells(plan, marks, horizon, first, second, index, out, m, at);
-    number_cells(plan, first, second, index, at);
-    let end = cells(plan);
-    copy_cells(second, first, end);
-    following
+    let end = list_entries(plan, marks, horizon, first, index, out, log, m, at, from);
+    lay_entries(plan, first, index, log, at, from);
+    end
 }
 
 // The rounds before the last.
@@ -60,22 +59,25 @@ fn list_rounds(
     marks: &[u8; 256],
     horizon: u64,
     first: &mut [u32],
-    second: &mut [u32],
     index: &mut [u16],
     out: &mut [u8],
+    log: &[u64],
     m: usize,
     rounds: u64,
 )
-    requires { ListingStarted plan.now marks.now horizon first.old second.old index.old out.old m rounds }
-    ensures { ListsRounds plan rounds first second index out }
+    requires { ListingStarted plan.now marks.now horizon first.old index.old out.old log.now m rounds }
+    ensures { ListsRounds plan rounds first index out }
 {
     let mut at = 0;
+    let mut q = 0;
     for made in 0..rounds {
-        at = list_round(plan, marks, horizon, first, second, index, out, m, at);
+        let end = list_round(plan, marks, horizon, first, index, out, log, m, at, q);
+        at += end - q;
+        q = end + 1;
     }
 }
 
-// The last line, that of the lowest Z cell that the round raised.
+// The last line, that of the lowest Z cell that the last round raised.
 fn list_lowest(
     plan: &[u8],
     marks: &[u8; 256],
@@ -86,34 +88,34 @@ fn list_lowest(
     out: &mut [u8],
     m: usize,
 )
-    requires { LowestReady plan.now marks.now horizon first.now second.now index.old out.old m }
-    ensures numbers { Numbers plan (m - 1) (lowest_line (plan_of plan.now) first.now second.now) index }
-    ensures appends { Appends plan (m - 1) (lowest_line (plan_of plan.now) first.now second.now) out }
+    requires { LastReady plan.now marks.now horizon first.now second.now index.old out.old m }
+    ensures numbers { Numbers plan (m - 1) (last_line_of (plan_of plan.now) first.now) index }
+    ensures appends { Appends plan (m - 1) (last_line_of (plan_of plan.now) first.now) out }
     ensures same_length { SameLength index }
 {
     let width = width_of(plan);
     let c = lowest(first, second, width);
+    let wait = cell_at(second, c);
     let last = m - 1;
-    list_raised(plan, marks, horizon, first, second, index, out, m, last, c);
+    list_raised(plan, marks, horizon, first, index, out, m, last, c, wait);
     let n = points(plan);
     put_number(index, c, n + last);
 }
 
-// The round in which the plan breaks.
+// The round in which the plan breaks, whose cells the second table has.
 fn list_last(
     plan: &[u8],
     marks: &[u8; 256],
     horizon: u64,
     first: &mut [u32],
-    second: &mut [u32],
+    second: &[u32],
     index: &mut [u16],
     out: &mut [u8],
     m: usize,
 )
-    requires { LastReady plan.now marks.now horizon first.old second.old index.old out.old m }
-    ensures { ListsRound plan (last_line_of (plan_of plan.now) first.old) (m - 1) first second index out }
+    requires { LastReady plan.now marks.now horizon first.old second.now index.old out.old m }
+    ensures { ListsRound plan (last_line_of (plan_of plan.now) first.old) (m - 1) first index out }
 {
-    round(plan, marks, horizon, first, second);
     list_lowest(plan, marks, horizon, first, second, index, out, m);
     let end = cells(plan);
     copy_cells(second, first, end);
@@ -135,29 +137,28 @@ fn start_listing(plan: &[u8], first: &mut [u32], index: &mut [u16], out: &mut [u
     put_word(out, 0, m);
 }
 
-// The listing of m lines of a plan that breaks in round r, into tables of just its cells and an output of just its length.
+// The listing of m lines of a plan that breaks in round r, into tables of just its cells and an output of just its length. The second table has round r's cells.
 pub fn write_listing(
     plan: &[u8],
     first: &mut [u32],
-    second: &mut [u32],
+    second: &[u32],
     index: &mut [u16],
     out: &mut [u8],
+    log: &[u64],
     m: usize,
     r: u64,
 )
-    requires { ListingLent plan.now first.old second.old index.old out.old m r }
+    requires { ListingLent plan.now first.old second.now index.old out.old log.now m r }
     ensures first_value { first.new ≡ table (plan_of plan.now) r }
-    ensures second_value { second.new ≡ table (plan_of plan.now) r }
     ensures index_value { index.new ≡ index_table (plan_of plan.now) (listing_lines (plan_of plan.now) r) }
     ensures listing { Listing plan.now out.new r }
     ensures same_length { SameLength first }
-    ensures same_length_2 { SameLength second }
-    ensures same_length_3 { SameLength index }
-    ensures same_length_4 { SameLength out }
+    ensures same_length_2 { SameLength index }
+    ensures same_length_3 { SameLength out }
 {
     let marks = plain_marks();
     let horizon = horizon_of(plan);
     start_listing(plan, first, index, out, m);
-    list_rounds(plan, &marks, horizon, first, second, index, out, m, r - 1);
+    list_rounds(plan, &marks, horizon, first, index, out, log, m, r - 1);
     list_last(plan, &marks, horizon, first, second, index, out, m);
 }

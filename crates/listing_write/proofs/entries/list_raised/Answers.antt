@@ -3,18 +3,14 @@ use Rattle.plan.specs.Layout.{plan_of}
 use Rattle.listing_write.proofs.EntryLaws.{found_in, raised_listed}
 use Rattle.listing_write.proofs.entries.list_raised.Goals as goal
 
-pub find_ground-found-requires : goal.find_ground-found-requires
-find_ground-found-requires c = let x = c.requires.0.made.exact in
-    record { accepted = x.accepted; marked = x.marked; horizon_is = x.horizon_is; long = x.first_length }
-
 pub put_found-requires : goal.put_found-requires
-put_found-requires c = let d = c.requires.0.made in
+put_found-requires c = let d = c.requires.made in
     let f = c.frame_of-frame in
-    let l = c.line_at-line in
-    (record { accepted = d.exact.accepted; listing = d.listing; room = c.requires.0.room; fits = l.ensures.fits _ d.exact.accepted f.ensures c.requires.0.inside }, record { sized = d.numbers.sized; within = found_in (plan_of c.args.plan.now) c.args.first.now l.result c.find_ground-found.result c.find_ground-found.ensures })
+    let l = c.line_with-line in
+    (record { accepted = d.lent.accepted; listing = d.listing; room = c.requires.room; fits = l.ensures.fits _ d.lent.accepted f.ensures c.requires.raised.inside c.requires.raised.wait_fits }, record { sized = d.numbers.sized; within = found_in (plan_of c.args.plan.now) c.args.first.now l.result c.find_ground-found.result c.find_ground-found.ensures })
 
 pub returns : goal.returns
 returns c = let f = c.frame_of-frame in
-    let l = c.line_at-line in
+    let l = c.line_with-line in
     let g = c.find_ground-found in
-    raised_listed c.args.plan.now c.args.marks.now c.args.horizon c.args.first.now c.args.second.now c.args.index.now c.args.out.now c.args.m c.args.i c.args.c c.requires.0.made c.requires.0.room c.requires.0.inside c.requires.1 l.result g.result _ (l.ensures.is_line _ f.ensures) g.ensures c.put_found.ensures.put_by
+    raised_listed c.args.plan.now c.args.marks.now c.args.horizon c.args.first.now c.args.index.now c.args.out.now c.args.m c.args.i c.args.c c.args.wait c.requires l.result g.result _ (l.ensures.is_line _ f.ensures) g.ensures c.put_found.ensures.put_by
