@@ -15,6 +15,7 @@ use Rattle.plan.specs.Layout.{plan_of}
 use Rattle.plan.specs.Refusal.{Accepted, refusal}
 use Rattle.plan.proofs.Ranges.{accepted_well_formed}
 use Rattle.rounds_making.specs.Rounds.{zeros}
+use Rattle.rounds_making.specs.Logs.{LoggedRun}
 use Rattle.rounds_making.specs.Outcomes.{Outcome, kept, broken, spent, refused, pick, run_outcome}
 use Rattle.rounds.specs.CheckOutcomes.{is_too_short, check_outcome, check_table}
 use Rattle.rounds.specs.Meaning.{IsSpent, Meaning}
@@ -26,6 +27,7 @@ use Rattle.listing_lines.specs.Handed.{Listing}
 use Rattle.listing_lines.proofs.IndexLaws.{index_length}
 use Rattle.listing_lines.proofs.Ending.{breaks_in, breaks_table}
 use Rattle.listing_lines.proofs.LineCounts.{lines_many, listing_count}
+use Rattle.listing_write.specs.RoundLog.{RoundsLogged}
 use Rattle.listing_write.proofs.ExactTables.{breaks_after, breaks_running, exact_length}
 use Rattle.listing.specs.ListOutcomes.{listing_length, too_long, with_listing, index_short, list_outcome, list_table}
 use Rattle.listing.specs.AfterList.{AfterList}
@@ -50,8 +52,8 @@ module _ (plan F G : List ℕ) (r e : ℕ) (k : BrokenTables plan F G r) (ee : e
   pub first_back : (Y : List ℕ) → Y ≡ table (plan_of plan) r → Y ++ drop e F ≡ F
   first_back Y f = back_same e F (table (plan_of plan) r) Y (ap (λ (n : ℕ). take n F) ee ∙ k.first_holds) f
 
-  pub second_back : (Y : List ℕ) → Y ≡ table (plan_of plan) r → Y ++ drop e G ≡ G
-  second_back Y f = back_same e G (table (plan_of plan) r) Y (ap (λ (n : ℕ). take n G) ee ∙ k.second_holds) f
+  pub second_part : take e G ≡ table (plan_of plan) r
+  second_part = ap (λ (n : ℕ). take n G) ee ∙ k.second_holds
 
   -- the 16-bit table and the output
   pub listing_left : (b : ℕ) (I out X O : List ℕ) → cells (plan_of plan) ≤ length I → b ≡ listing_length (plan_of plan) r → b ≤ length out → X ≡ index_table (plan_of plan) (listing_lines (plan_of plan) r) → Listing plan O r → length O ≡ length (take b out) → ListingLeft plan r I out (X ++ drop e I) (O ++ drop b out)
@@ -127,12 +129,15 @@ module _ (plan I out : List ℕ) where
   pub answered_as : (o : Outcome) (r : ℕ) (a : Outcome) (b : ℕ) (I' out' : List ℕ) → o ≡ broken r → Answered plan (broken r) a b I out I' out' → Answered plan o a b I out I' out'
   answered_as o r a b I' out' e h = subst (λ (x : Outcome). Answered plan x a b I out I' out') (sym e) h
 
-pub broken_as : (plan F G I : List ℕ) (o : Outcome) (r : ℕ) → o ≡ broken r → BrokenWith plan F G I o → BrokenLent plan F G I r
-broken_as plan F G I o r e h = rw e at h
+pub broken_as : (plan F G I log : List ℕ) (o : Outcome) (r : ℕ) → o ≡ broken r → BrokenWith plan F G I log o → BrokenLent plan F G I log r
+broken_as plan F G I log o r e h = rw e at h
 
--- the tables are as they were
-pub broken_on : (plan F G I F' G' : List ℕ) (r : ℕ) → F' ≡ F → G' ≡ G → BrokenLent plan F G I r → BrokenLent plan F' G' I r
-broken_on plan F G I F' G' r f g h = subst (λ (x : List ℕ). BrokenLent plan F' x I r) (sym g) (subst (λ (x : List ℕ). BrokenLent plan x G I r) (sym f) h)
+-- ---- the log
+pub some_round : (P : Plan) (r : ℕ) → BreaksIn P r → 0 < r
+some_round P r b = omega (arith, breaks_after P r b)
+
+pub rounds_logged : (plan F G I log : List ℕ) (r : ℕ) → BrokenLent plan F G I log r → r ≤ 4096 → RoundsLogged (plan_of plan) r log
+rounds_logged plan F G I log r lent h = record { long = omega (arith, lent.long_log); few = h; logged = lent.logged.logged r refl }
 
 -- ---- after the check
 module _ (plan F G : List ℕ) (limit : ℕ) (accepted : Accepted plan) where
@@ -140,7 +145,7 @@ module _ (plan F G : List ℕ) (limit : ℕ) (accepted : Accepted plan) where
   broken_long : (r : ℕ) → broken r ≡ check_outcome plan F G limit → (is_too_short (plan_of plan) F G ≡ true → ⊥)
   broken_long r e h = let q = short_outcome plan F G limit accepted h in let z : ◌≡◌ {A = ℕ} 0 1 = cc in absurd (omega arith)
 
-  module _ (I : List ℕ) (long_index : cells (plan_of plan) ≤ length I) (F' G' : List ℕ) (ef : F' ≡ check_table plan F G limit F) (eg : G' ≡ check_table plan F G limit G) (r : ℕ) (e : broken r ≡ check_outcome plan F G limit) where
+  module _ (I : List ℕ) (long_index : cells (plan_of plan) ≤ length I) (log : List ℕ) (long_log : length log ≡ 8192) (F' G' : List ℕ) (ef : F' ≡ check_table plan F G limit F) (eg : G' ≡ check_table plan F G limit G) (r : ℕ) (e : broken r ≡ check_outcome plan F G limit) (logged : LoggedRun (plan_of plan) (zeros (plan_of plan)) (broken r) log) where
     long_first : Dec (cells (plan_of plan) ≤ length F) → cells (plan_of plan) ≤ length F
     long_first (yes h) = h
     long_first (no h) = absurd (broken_long r e (short_first (plan_of plan) F G (omega arith)))
@@ -149,8 +154,8 @@ module _ (plan F G : List ℕ) (limit : ℕ) (accepted : Accepted plan) where
     long_second f (yes h) = h
     long_second f (no h) = absurd (broken_long r e (short_second (plan_of plan) F G f (omega arith)))
 
-    tables_broken : (f : cells (plan_of plan) ≤ length F) → (g : cells (plan_of plan) ≤ length G) → BrokenLent plan F' G' I r
-    tables_broken f g = record { tables = record { accepted = accepted; breaks = breaks_in (plan_of plan) limit r runs; long_first = longer F f F' (ef ∙ held F); long_second = longer G g G' (eg ∙ held G); first_holds = cut F F' (ef ∙ held F); second_holds = cut G G' (eg ∙ held G) }; long_index = long_index }
+    tables_broken : (f : cells (plan_of plan) ≤ length F) → (g : cells (plan_of plan) ≤ length G) → BrokenLent plan F' G' I log r
+    tables_broken f g = record { tables = record { accepted = accepted; breaks = breaks_in (plan_of plan) limit r runs; long_first = longer F f F' (ef ∙ held F); long_second = longer G g G' (eg ∙ held G); first_holds = cut F F' (ef ∙ held F); second_holds = cut G G' (eg ∙ held G) }; long_index = long_index; long_log = long_log; logged = logged }
       where
         runs : run_outcome (plan_of plan) (zeros (plan_of plan)) limit ≡ broken r
         runs = sym (check_runs plan F G limit accepted f g) ∙ sym e
@@ -164,14 +169,15 @@ module _ (plan F G : List ℕ) (limit : ℕ) (accepted : Accepted plan) where
         cut : (L X : List ℕ) → X ≡ table (plan_of plan) r ++ drop (cells (plan_of plan)) L → take (cells (plan_of plan)) X ≡ table (plan_of plan) r
         cut L X q = ap (take (cells (plan_of plan))) q ∙ take_at (table (plan_of plan) r) (drop (cells (plan_of plan)) L) (cells (plan_of plan)) (exact_length plan accepted r)
 
-    lent_broken : BrokenLent plan F' G' I r
+    lent_broken : BrokenLent plan F' G' I log r
     lent_broken = let f = long_first (dec_le (cells (plan_of plan)) (length F)) in tables_broken f (long_second f (dec_le (cells (plan_of plan)) (length G)))
 
-  pub check_follows : (I : List ℕ) → cells (plan_of plan) ≤ length I → (F' G' : List ℕ) → F' ≡ check_table plan F G limit F → G' ≡ check_table plan F G limit G → (o : Outcome) → o ≡ check_outcome plan F G limit → BrokenWith plan F' G' I o
-  check_follows I h F' G' ef eg (kept r) e = tt
-  check_follows I h F' G' ef eg (broken r) e = lent_broken I h F' G' ef eg r e
-  check_follows I h F' G' ef eg (spent r) e = tt
-  check_follows I h F' G' ef eg (refused n) e = tt
+  pub check_follows : (I : List ℕ) → cells (plan_of plan) ≤ length I → (log : List ℕ) → length log ≡ 8192 → (F' G' : List ℕ) → F' ≡ check_table plan F G limit F → G' ≡ check_table plan F G limit G → (o : Outcome) → o ≡ check_outcome plan F G limit
+      → LoggedRun (plan_of plan) (zeros (plan_of plan)) o log → BrokenWith plan F' G' I log o
+  check_follows I h log k F' G' ef eg (kept r) e l = tt
+  check_follows I h log k F' G' ef eg (broken r) e l = lent_broken I h log k F' G' ef eg r e l
+  check_follows I h log k F' G' ef eg (spent r) e l = tt
+  check_follows I h log k F' G' ef eg (refused n) e l = tt
 
 -- ---- what the answers mean: a listing answers as the check does, or refuses
 pub listed_means : (P : Plan) (limit room : ℕ) (o : Outcome) (F G : List ℕ) → Meaning P limit o F G → Meaning P limit (with_listing P room o) F G

@@ -3,6 +3,8 @@ use Rattle.std.specs.Prelude.{◌≡◌, List, ◌++◌, ℕ, ◌≤◌, length,
 use Rattle.plan.specs.Plan.{cells}
 use Rattle.plan.specs.Layout.{plan_of}
 use Rattle.plan.specs.Refusal.{Accepted}
+use Rattle.rounds_making.specs.Rounds.{zeros}
+use Rattle.rounds_making.specs.Logs.{LoggedRun}
 use Rattle.rounds_making.specs.Outcomes.{Outcome, kept, broken, spent, refused}
 use Rattle.listing_lines.specs.Listed.{table, listing_lines, index_table, BreaksIn}
 use Rattle.listing.specs.ListOutcomes.{length_with, with_listing, index_with, HandedOver, OutputWith}
@@ -16,15 +18,18 @@ pub record BrokenTables (plan first second : List ℕ) (r : ℕ) : Type 0 where
   pub first_holds : take (cells (plan_of plan)) first ≡ table (plan_of plan) r
   pub second_holds : take (cells (plan_of plan)) second ≡ table (plan_of plan) r
 
-pub record BrokenLent (plan first second index : List ℕ) (r : ℕ) : Type 0 where
+-- with room for the 16-bit table, and the log of its rounds, as far as 8,192 entries go
+pub record BrokenLent (plan first second index log : List ℕ) (r : ℕ) : Type 0 where
   pub tables : BrokenTables plan first second r
   pub long_index : cells (plan_of plan) ≤ length index
+  pub long_log : length log ≡ 8192
+  pub logged : LoggedRun (plan_of plan) (zeros (plan_of plan)) (broken r) log
 
-abbrev pub BrokenWith : List ℕ → List ℕ → List ℕ → List ℕ → Outcome → Type 0
-BrokenWith plan first second index (kept r) = Unit {0}
-BrokenWith plan first second index (broken r) = BrokenLent plan first second index r
-BrokenWith plan first second index (spent r) = Unit {0}
-BrokenWith plan first second index (refused n) = Unit {0}
+abbrev pub BrokenWith : List ℕ → List ℕ → List ℕ → List ℕ → List ℕ → Outcome → Type 0
+BrokenWith plan first second index log (kept r) = Unit {0}
+BrokenWith plan first second index log (broken r) = BrokenLent plan first second index log r
+BrokenWith plan first second index log (spent r) = Unit {0}
+BrokenWith plan first second index log (refused n) = Unit {0}
 
 -- the 16-bit table and the output of a listing handed over
 pub record ListingLeft (plan : List ℕ) (r : ℕ) (I out I' out' : List ℕ) : Type 0 where

@@ -1,18 +1,18 @@
 // What the listing answers, and the listing of a broken plan handed over.
-ghost use Rattle.std.specs.Prelude.{◌≡◌, ◌+◌, ◌*◌, ◌≤◌, min, length};
+ghost use Rattle.std.specs.Prelude.{◌≡◌, ◌+◌, ◌*◌, ◌≤◌, length};
 ghost use Rattle.plan.specs.Moments.{moments};
 ghost use Rattle.plan.specs.Layout.{plan_of};
 ghost use Rattle.rounds_making.specs.Outcomes.{broken, outcome_of};
 ghost use Rattle.listing_lines.specs.Listed.{listing_lines};
 ghost use Rattle.listing.specs.ListOutcomes.{answer_of, length_of};
 ghost use Rattle.listing.specs.AfterList.{AfterList};
-ghost use Rattle.listing.specs.Answering.{BrokenTables, BrokenLent, BrokenWith, ListingLeft, Answered};
+ghost use Rattle.listing.specs.Answering.{BrokenLent, BrokenWith, ListingLeft, Answered};
 
 use crate::Listed;
 use listing_write::{count_lines, write_listing};
 use plan::{cells, widen_word};
 use plan_refusal::refusal;
-use rounds::{Answer, check};
+use rounds::{Answer, check_logged};
 
 const MOST: usize = 4096;
 
@@ -23,15 +23,16 @@ const MOST_ROUNDS: u64 = 4096;
 fn write_out(
     plan: &[u8],
     first: &mut [u32],
-    second: &mut [u32],
+    second: &[u32],
     index: &mut [u16],
     out: &mut [u8],
+    log: &[u64],
     m: usize,
     r: u64,
 )
-    requires { BrokenLent plan.now first.old second.old index.old r × (m ≡ length (listing_lines (plan_of plan.now) r)) × (m ≤ 4096) × (2 + 14 * m ≤ length out.old) }
+    requires broken_lent { BrokenLent plan.now first.old second.now index.old log.now r × (r ≤ 4096) }
+    requires m_value { (m ≡ length (listing_lines (plan_of plan.now) r)) × (m ≤ 4096) × (2 + 14 * m ≤ length out.old) }
     ensures first_value { first.new ≡ first.old }
-    ensures second_value { second.new ≡ second.old }
     ensures listing_left { ListingLeft plan.now r index.old out.old index.new out.new }
 {
     let end = cells(plan);
@@ -39,50 +40,40 @@ fn write_out(
     write_listing(
         plan,
         &mut first[..end],
-        &mut second[..end],
+        &second[..end],
         &mut index[..end],
         &mut out[..bytes],
+        log,
         m,
         r,
     );
-}
-
-// The lines of the listing, counted as far as 4,097; the tables are as they were.
-fn lines_of(plan: &[u8], first: &mut [u32], second: &mut [u32], r: u64) -> usize
-    requires { BrokenTables plan.now first.old second.old r }
-    ensures value { result ≡ min 4097 (length (listing_lines (plan_of plan.now) r)) }
-    ensures first_value { first.new ≡ first.old }
-    ensures second_value { second.new ≡ second.old }
-{
-    let end = cells(plan);
-    widen_word(count_lines(plan, &mut first[..end], &mut second[..end], r))
 }
 
 // Where the plan broke in round r. Refusal 7 is decided before anything is written.
 fn list_broken(
     plan: &[u8],
     first: &mut [u32],
-    second: &mut [u32],
+    second: &[u32],
     index: &mut [u16],
     out: &mut [u8],
+    log: &[u64],
     r: u64,
 ) -> Listed
-    requires { BrokenLent plan.now first.old second.old index.old r }
+    requires { BrokenLent plan.now first.old second.now index.old log.now r }
     ensures first_value { first.new ≡ first.old }
-    ensures second_value { second.new ≡ second.old }
     ensures answered { Answered plan.now (broken r) (answer_of result) (length_of result) index.old out.old index.new out.new }
 {
     if MOST_ROUNDS < r {
         return Listed::Refused(7);
     }
-    let m = lines_of(plan, first, second, r);
+    let m = widen_word(count_lines(log, r));
     if MOST < m {
         return Listed::Refused(7);
     }
     if out.len() < 2 + 14 * m {
         return Listed::Refused(7);
     }
-    write_out(plan, first, second, index, out, m, r);
+    write_out(plan, first, second, index, out, log, m, r);
     Listed::Broken(r, 2 + 14 * m)
 }
 
@@ -90,19 +81,19 @@ fn list_broken(
 fn list_checked(
     plan: &[u8],
     first: &mut [u32],
-    second: &mut [u32],
+    second: &[u32],
     index: &mut [u16],
     out: &mut [u8],
+    log: &[u64],
     answer: Answer,
 ) -> Listed
-    requires { BrokenWith plan.now first.old second.old index.old (outcome_of answer) }
+    requires { BrokenWith plan.now first.old second.now index.old log.now (outcome_of answer) }
     ensures first_value { first.new ≡ first.old }
-    ensures second_value { second.new ≡ second.old }
     ensures answered { Answered plan.now (outcome_of answer) (answer_of result) (length_of result) index.old out.old index.new out.new }
 {
     match answer {
         Answer::Kept(r) => Listed::Kept(r),
-        Answer::Broken(r) => list_broken(plan, first, second, index, out, r),
+        Answer::Broken(r) => list_broken(plan, first, second, index, out, log, r),
         Answer::Spent(n) => Listed::Spent(n),
         Answer::Refused(n) => Listed::Refused(n),
     }
@@ -128,6 +119,7 @@ pub fn list(
     if index.len() < end {
         return Listed::Refused(6);
     }
-    let answer = check(plan, first, second, limit);
-    list_checked(plan, first, second, index, out, answer)
+    let mut log = [0u64; 8192]; // room for 4,096 lines in as many rounds
+    let answer = check_logged(plan, first, second, limit, &mut log);
+    list_checked(plan, first, second, index, out, &log, answer)
 }
