@@ -1,15 +1,13 @@
--- Laws of the check: what it answers and leaves where it refuses, and what rounds from zeros are lent and make of the tables.
+-- Laws of the check: its cases (CheckCases) are all that it promises, and what rounds from zeros are lent and make of the tables.
 use mathlib.Core.Path.{◌≡◌, refl, sym, ap, ap₂, subst, ◌∙◌}
-use mathlib.Core.Bool.{true, false}
+use mathlib.Core.Bool.{true}
 use mathlib.Core.Logic.{◌⊎◌, inl, inr}
 use mathlib.Core.List.{List, ◌++◌}
 use mathlib.Core.Option.{none}
-use Prim.Native.Nat.{ℕ, ◌+◌, ◌≤◌, ◌<◌}
+use Prim.Native.Nat.{ℕ, ◌+◌, ◌≤◌}
 use native.Mathlib.Decide.{ℕ_discrete, dec_le}
 use native.Mathlib.Omega.{arith}
-use lib.Dec.{eqb}
 use lib.ListN.{length, get_or, take, drop, replicate, length-replicate, get_or-eq_default}
-use borrow.Author.Tests.{lt-ltb, le-ltb, eq-eqb, ne_eqb}
 use Rattle.plan.specs.Moments.{Moments}
 use Rattle.plan.specs.Label.{Marks}
 use Rattle.plan.specs.Plan.{Plan, cells}
@@ -27,56 +25,18 @@ use Rattle.rounds_making.specs.Logs.{LoggedRun}
 use Rattle.rounds_making.proofs.Stopping.{none_runs}
 use Rattle.rounds_making.proofs.TableLengths.{table_length}
 use Rattle.rounds_making.proofs.RoundsMade.{front_is, back_is}
-use Rattle.rounds.specs.CheckOutcomes.{is_too_short, check_outcome, check_table}
+use Rattle.rounds.specs.CheckOutcomes.{check_outcome, check_table}
 use Rattle.rounds.specs.Meaning.{Meaning}
 use Rattle.rounds.specs.AfterCheck.{AfterCheck}
 use Rattle.rounds.specs.FromZeros.{ZerosLent, RanFromZeros}
+pub use Rattle.rounds.proofs.CheckCases.{check_runs, check_leaves, refused_outcome, refused_table, short_outcome, short_table, short_first, short_second}
 use Rattle.rounds.proofs.Small.{table_high}
 use Rattle.rounds.proofs.Meanings.{refused_means, run_means_bytes, decided}
 use Rattle.rounds.proofs.Unlabelled.{unlabelled_check}
 
-module _ (bs F G : List ℕ) (limit : ℕ) where
-  -- ---- where nothing is refused
-  module _ (accepted : Accepted bs) (f : cells (plan_of bs) ≤ length F) (g : cells (plan_of bs) ≤ length G) where
-    pub check_runs : check_outcome bs F G limit ≡ run_outcome (plan_of bs) (zeros (plan_of bs)) limit
-    unfolding check_outcome
-    check_runs = rw (eq-eqb (refusal bs) 0 accepted, le-ltb (length F) (cells (plan_of bs)) f, le-ltb (length G) (cells (plan_of bs)) g) refl
-
-    pub check_leaves : (L : List ℕ) → check_table bs F G limit L ≡ run_table (plan_of bs) (zeros (plan_of bs)) limit ++ drop (cells (plan_of bs)) L
-    unfolding check_table
-    check_leaves L = rw (eq-eqb (refusal bs) 0 accepted, le-ltb (length F) (cells (plan_of bs)) f, le-ltb (length G) (cells (plan_of bs)) g) refl
-
-  -- ---- where it refuses
-  module _ (k : ℕ) (e : k ≡ refusal bs) (n : k ≡ 0 → ⊥) where
-    turned_down : eqb (refusal bs) 0 ≡ false
-    turned_down = ne_eqb (refusal bs) 0 (λ z. n (e ∙ z))
-
-    pub refused_outcome : refused k ≡ check_outcome bs F G limit
-    unfolding check_outcome
-    refused_outcome = rw (turned_down, e) refl
-
-    pub refused_table : (L : List ℕ) → L ≡ check_table bs F G limit L
-    unfolding check_table
-    refused_table L = rw turned_down refl
-
-  module _ (a : Accepted bs) (h : is_too_short (plan_of bs) F G ≡ true) where
-    pub short_outcome : refused 6 ≡ check_outcome bs F G limit
-    unfolding check_outcome
-    short_outcome = rw (eq-eqb (refusal bs) 0 a, h) refl
-
-    pub short_table : (L : List ℕ) → L ≡ check_table bs F G limit L
-    unfolding check_table
-    short_table L = rw (eq-eqb (refusal bs) 0 a, h) refl
-
 -- all that the check promises, where it refused
 pub after_refusal : (bs : List ℕ) (limit k : ℕ) (first second : Moments) → refused k ≡ check_outcome bs first.entry second.entry limit → first.exit ≡ check_table bs first.entry second.entry limit first.entry → second.exit ≡ check_table bs first.entry second.entry limit second.entry → AfterCheck bs limit first second (refused k)
 after_refusal bs limit k first second e f g = record { outcome_is = e; first_is = f; second_is = g; means = refused_means (plan_of bs) limit k first.exit second.exit; serves = λ h s. s; as_unlabelled = λ a. unlabelled_check bs a limit first second (refused k) e f g }
-
-pub short_first : (P : Plan) (F G : List ℕ) → length F < cells P → is_too_short P F G ≡ true
-short_first P F G h = rw (lt-ltb (length F) (cells P) h) refl
-
-pub short_second : (P : Plan) (F G : List ℕ) → cells P ≤ length F → length G < cells P → is_too_short P F G ≡ true
-short_second P F G f h = rw (le-ltb (length F) (cells P) f, lt-ltb (length G) (cells P) h) refl
 
 -- ---- the check refuses, or its rounds run
 module _ (bs F G : List ℕ) (limit : ℕ) where

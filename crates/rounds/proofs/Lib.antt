@@ -4,6 +4,7 @@ pub mod Verdict
 pub mod Meanings
 pub mod Small
 pub mod SameRuns
+pub mod CheckCases
 pub mod Unlabelled
 pub mod Checking
 mod Bench
