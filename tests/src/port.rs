@@ -1,6 +1,6 @@
-// A port of the Rattle code that `rounds::check` runs, line by line, to safe Rust with its ordinary bounds checks: the same
-// functions with the same names, the same loops in the same order, a module for each crate and each file. It is for the benchmark
-// alone, which compares compiled Rattle with Rust; nothing here is proved.
+// A port of the Rattle code that `rounds::check` ran at commit 8850928, line by line, to safe Rust with its ordinary bounds checks:
+// the same functions with the same names, the same loops in the same order, a module for each crate and each file. Today's
+// functions are others. It is for the benchmark alone, which compares compiled Rattle with Rust; nothing here is proved.
 // The contracts are left out, and so are the functions that the check does not reach. Two things are added because Rust asks for
 // them: the rows of rules and the places without a row's bits are `Copy`, and a parameter that only a contract names has an
 // underscore.

@@ -1,56 +1,31 @@
 // The classes of a plan's links: refusals 14 and 15, after those of the plan.
-ghost use Rattle.std.specs.Prelude.{◌≡◌, ◌<◌, length, get_or};
+ghost use Rattle.std.specs.Prelude.{◌≡◌, ◌<◌, length};
 ghost use Rattle.plan.specs.Layout.{plan_of};
+ghost use Rattle.plan.specs.Numbers.{refusal_number};
 ghost use Rattle.plan.specs.Refusal.{every};
-ghost use Rattle.classes.specs.Classes.{house_seconds, house, class_known, classes_fit, wide_enough, class_refusal};
+ghost use Rattle.classes.specs.Classes.{house, class_known, classes_fit, wide_enough, class_refusal};
 
-use plan::{byte_at, link_least, link_most, links};
+use plan::{Refusal, byte_at, link_least, link_most, links};
 use plan_refusal::refusal;
 
 // The house table: the least and the most seconds of class 1, of class 2, and so on.
-const HOUSE: [u64; 12] = [10, 90, 5, 60, 2, 25, 15, 120, 60, 300, 8, 45];
-
-const LAST_CLASS: usize = 6;
-
-// The numbers of the refusals, and 0 for none.
-const PASSED: u32 = 0;
-
-const WRONG_LIST: u32 = 14;
-
-const NARROWER: u32 = 15;
-
-// A number of the house table, 0 past its end.
-fn house_seconds(at: usize) -> u64
-    ensures { result ≡ get_or house_seconds at 0 }
-{
-    let house = HOUSE;
-    if at < house.len() {
-        return house[at];
-    }
-    0
-}
+const HOUSE: [(u64, u64); 6] = [(10, 90), (5, 60), (2, 25), (15, 120), (60, 300), (8, 45)];
 
 fn classes_known(classes: &[u8]) -> bool
     ensures { result ≡ every (class_known house classes.now) (length classes.now) }
 {
-    let n = classes.len();
-    for i in 0..n {
-        if LAST_CLASS < byte_at(classes, i) {
-            return false;
-        }
-    }
-    true
+    classes
+        .iter()
+        .all(|&class| usize::from(class) <= HOUSE.len())
 }
 
 fn classes_fit(plan: &[u8], classes: &[u8]) -> bool
     ensures { result ≡ classes_fit house (plan_of plan.now) classes.now }
 {
-    if classes.len() != links(plan) {
-        return false;
-    }
-    classes_known(classes)
+    classes.len() == links(plan) && classes_known(classes)
 }
 
+// A class past the table's end, which 14 turns down before, has no seconds.
 fn wide_enough(plan: &[u8], classes: &[u8], i: usize) -> bool
     requires { i < 256 }
     ensures { result ≡ wide_enough house (plan_of plan.now) classes.now i }
@@ -59,37 +34,26 @@ fn wide_enough(plan: &[u8], classes: &[u8], i: usize) -> bool
     if class == 0 {
         return true;
     }
-    if house_seconds(2 * class - 2) < link_least(plan, i) {
-        return false;
-    }
-    house_seconds(2 * class - 1) <= link_most(plan, i)
+    let (least, most) = HOUSE.get(class - 1).copied().unwrap_or_default();
+    link_least(plan, i) <= least && most <= link_most(plan, i)
 }
 
 fn links_wide_enough(plan: &[u8], classes: &[u8]) -> bool
     ensures { result ≡ every (wide_enough house (plan_of plan.now) classes.now) (plan_of plan.now).links }
 {
-    let n = links(plan);
-    for i in 0..n {
-        if !wide_enough(plan, classes, i) {
-            return false;
-        }
-    }
-    true
+    (0..links(plan)).all(|i| wide_enough(plan, classes, i))
 }
 
-// 0 for a plan that passes, or the refusal: of the plan, 14 or 15.
-pub fn class_refusal(plan: &[u8], classes: &[u8]) -> u32
-    ensures { result ≡ class_refusal house plan.now classes.now }
+// The first refusal that applies: of the plan, 14 or 15; none for a plan that passes.
+pub fn class_refusal(plan: &[u8], classes: &[u8]) -> Result<(), Refusal>
+    ensures { refusal_number result ≡ class_refusal house plan.now classes.now }
 {
-    let number = refusal(plan);
-    if number != 0 {
-        return number;
-    }
+    refusal(plan)?;
     if !classes_fit(plan, classes) {
-        return WRONG_LIST;
+        return Err(Refusal::ClassList);
     }
     if !links_wide_enough(plan, classes) {
-        return NARROWER;
+        return Err(Refusal::NarrowLink);
     }
-    PASSED
+    Ok(())
 }

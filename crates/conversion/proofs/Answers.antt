@@ -6,10 +6,15 @@ use Prim.Native.Nat.{ℕ, ◌+◌, ◌≤◌, ◌<◌}
 use native.Mathlib.Decide.{ℕ_discrete}
 use native.Mathlib.Omega.{arith}
 use lib.ListN.{length, drop}
+use lib.Dec.{eqb}
+use borrow.Author.Rules.{rules}
 use borrow.Author.Tests.{lt-ltb, le-ltb, eq-eqb, ne_eqb}
 use Rattle.plan.specs.Layout.{plan_of, length_for, labelled_length_for}
 use Rattle.plan.specs.Forms.{with_labels, without_labels}
+use Rattle.plan.specs.Numbers.{number_of}
 use Rattle.plan.specs.Refusal.{refusal, Accepted}
+use Rattle.plan.specs.declared.refusal.Refusal.{Refusal}
+use Rattle.plan.specs.declared.refusal.Refusal.TheVariants.{ShortOutput, Labelled}
 use Rattle.plan.proofs.SameRows.{length_for_is, labelled_length_for_is}
 use Rattle.plan.proofs.Forms.{labels_there, labels_absent, with_same, with_none, with_length, with_accepted, without_same, without_length, without_accepted, without_with, with_without}
 use Rattle.conversion.specs.Conversion.{start_refusal, unlabelled, with_refusal, without_refusal, converted, refused, with_outcome, without_outcome, with_output, without_output}
@@ -45,6 +50,10 @@ module _ (bs : List ℕ) (end : ℕ) where
       go (no s) (yes e) = (sym (start_other s e) ∙ z, e)
 
 -- ---- the answer and the output, by the refusal
+-- no refusal has the number 0
+some_number : (r : Refusal) → eqb (number_of r) 0 ≡ false
+some_number r = search rules
+
 -- refused with n, and the output as it was
 abbrev WithRefused : List ℕ → List ℕ → ℕ → Type 0
 WithRefused bs O n = AfterWithLabels bs (record { entry = O; exit = O }) (refused n)
@@ -71,29 +80,29 @@ module _ (bs O : List ℕ) where
     unfolding without_output
     without_writes = rw (eq-eqb (without_refusal bs O) 0 none)
 
-  module _ (n : ℕ) (some : n ≡ 0 → ⊥) where
-    with_refused : with_refusal bs O ≡ n → WithRefused bs O n
+  module _ (r : Refusal) where
+    with_refused : with_refusal bs O ≡ number_of r → WithRefused bs O (number_of r)
     unfolding with_outcome with_output
-    with_refused e = record { outcome_is = rw (e, ne_eqb n 0 some); output_is = rw (e, ne_eqb n 0 some); there_and_back = λ c. absurd c }
+    with_refused e = record { outcome_is = rw (e, some_number r); output_is = rw (e, some_number r); there_and_back = λ c. absurd c }
 
-    without_refused : without_refusal bs O ≡ n → WithoutRefused bs O n
+    without_refused : without_refusal bs O ≡ number_of r → WithoutRefused bs O (number_of r)
     unfolding without_outcome without_output
-    without_refused e = record { outcome_is = rw (e, ne_eqb n 0 some); output_is = rw (e, ne_eqb n 0 some); there_and_back = λ c. absurd c }
+    without_refused e = record { outcome_is = rw (e, some_number r); output_is = rw (e, some_number r); there_and_back = λ c. absurd c }
 
     -- refused by the plan's own bytes
-    pub with_by_plan : n ≡ start_refusal bs (length_for (plan_of bs)) → WithRefused bs O n
+    pub with_by_plan : number_of r ≡ start_refusal bs (length_for (plan_of bs)) → WithRefused bs O (number_of r)
     unfolding with_refusal
-    with_by_plan e = with_refused (rw (← e, ne_eqb n 0 some))
+    with_by_plan e = with_refused (rw (← e, some_number r))
 
-    pub without_by_plan : n ≡ start_refusal bs (labelled_length_for (plan_of bs)) → WithoutRefused bs O n
+    pub without_by_plan : number_of r ≡ start_refusal bs (labelled_length_for (plan_of bs)) → WithoutRefused bs O (number_of r)
     unfolding without_refusal
-    without_by_plan e = without_refused (rw (← e, ne_eqb n 0 some))
+    without_by_plan e = without_refused (rw (← e, some_number r))
 
   -- ---- to the form with labels
   module _ (start : start_refusal bs (length_for (plan_of bs)) ≡ 0) where
     pub with_by_room : length O < labelled_length_for (plan_of bs) → WithRefused bs O 7
     unfolding with_refusal
-    with_by_room h = with_refused 7 (λ e. omega arith) (rw (start, lt-ltb (length O) (labelled_length_for (plan_of bs)) h))
+    with_by_room h = with_refused ShortOutput (rw (start, lt-ltb (length O) (labelled_length_for (plan_of bs)) h))
 
     with_none_refused : labelled_length_for (plan_of bs) ≤ length O → with_refusal bs O ≡ 0
     unfolding with_refusal
@@ -103,12 +112,12 @@ module _ (bs O : List ℕ) where
   module _ (start : start_refusal bs (labelled_length_for (plan_of bs)) ≡ 0) where
     pub without_by_label : unlabelled (plan_of bs) ≡ false → WithoutRefused bs O 19
     unfolding without_refusal
-    without_by_label e = without_refused 19 (λ z. omega arith) (rw (start, e))
+    without_by_label e = without_refused Labelled (rw (start, e))
 
     module _ (zeros : unlabelled (plan_of bs) ≡ true) where
       pub without_by_room : length O < length_for (plan_of bs) → WithoutRefused bs O 7
       unfolding without_refusal
-      without_by_room h = without_refused 7 (λ e. omega arith) (rw (start, zeros, lt-ltb (length O) (length_for (plan_of bs)) h))
+      without_by_room h = without_refused ShortOutput (rw (start, zeros, lt-ltb (length O) (length_for (plan_of bs)) h))
 
       without_none_refused : length_for (plan_of bs) ≤ length O → without_refusal bs O ≡ 0
       unfolding without_refusal

@@ -1,26 +1,18 @@
--- The bytes of an accepted plan with labels 0 in place of those that it has, one by one, and a loop that writes them.
-use mathlib.Core.Path.{◌≡◌, refl, sym, ap, ◌∙◌}
+-- The bytes of a plan with labels 0 in place of those that it has, and a list that is written over in three parts.
+use mathlib.Core.Path.{◌≡◌, sym, ap, ap₂, ◌∙◌}
 use mathlib.Core.List.{List, ◌++◌}
-use Prim.Native.Nat.{ℕ, suc, ◌+◌, ◌-◌, ◌≤◌, ◌<◌}
-use native.Mathlib.Numerals.{add-one}
+use Prim.Native.Nat.{ℕ, ◌+◌, ◌-◌, ◌≤◌}
 use native.Mathlib.Omega.{arith}
-use lib.ListN.{length, get_or, take, drop, set, replicate, length-replicate, get_or-replicate, length-set}
-use lib.Seq.{length-take-le, take_all, take-suc, drop-cons, set_at, append_snoc}
-use Rattle.plan.specs.Bytes.{byte_at}
-use Rattle.plan.specs.Layout.{labels_at, label_bytes, plan_of, length_for}
+use lib.ListN.{length, take, drop, replicate, length-append}
+use lib.Seq.{take_at, drop-drop}
+use borrow.Rule.Slice.PartMut.{put_mid}
+use Rattle.std.proofs.lemmas.List.{append_assoc}
+use Rattle.std.proofs.lemmas.Slice.{take-put_mid, drop-put_mid, drop-append-drop}
+use Rattle.plan.specs.Layout.{plan_of}
 use Rattle.plan.specs.Forms.{relabelled, with_labels, without_labels}
-use Rattle.plan.specs.Refusal.{Accepted}
-use Rattle.plan.proofs.Ranges.{accepted_bounded}
-use Rattle.plan.proofs.Forms.{new_length, first_byte, label_byte, rest_byte, reaches, accepted_length}
-
-abbrev zeros : ℕ → List ℕ
-zeros n = replicate n 0
-
-zeros_length : (n : ℕ) → length (zeros n) ≡ n
-zeros_length n = length-replicate n 0
 
 abbrev pub zeroed : List ℕ → ℕ → List ℕ
-zeroed bs labels = relabelled bs (zeros labels)
+zeroed bs labels = relabelled bs (replicate labels 0)
 
 -- the two forms
 module _ (bs : List ℕ) (labels : ℕ) where
@@ -32,47 +24,19 @@ module _ (bs : List ℕ) (labels : ℕ) where
   unfolding without_labels
   zeroed_without e = ap (zeroed bs) e
 
-module _ (bs : List ℕ) (accepted : Accepted bs) (labels : ℕ) where
-  pub zeroed_length : length (zeroed bs labels) ≡ length_for (plan_of bs) + labels
-  zeroed_length = omega (arith, new_length bs (zeros labels) (reaches bs accepted), accepted_length bs accepted, zeros_length labels)
+-- ---- xs up to s, ys from there, k long, and zs from there up to n + k stand before what is left of `out`
+pub three_parts : (xs ys zs out : List ℕ) (s k n : ℕ) → length xs ≡ s → length ys ≡ k → s ≤ n → s ≤ length out → put_mid (s + k) (n + k - (s + k)) (put_mid s (s + k - s) (xs ++ drop s out) ys) zs ≡ (xs ++ (ys ++ zs)) ++ drop (n + k) out
+three_parts xs ys zs out s k n ex ey h l =
+    ap₂ (λ (a b : List ℕ). a ++ (zs ++ b)) first last ∙ append_assoc xs ys (zs ++ drop (n + k) out)
+    ∙ sym (append_assoc xs (ys ++ zs) (drop (n + k) out) ∙ ap (λ (a : List ℕ). xs ++ a) (append_assoc ys zs (drop (n + k) out)))
+  where
+    long : s ≤ length (xs ++ drop s out)
+    long = rw length-append (omega arith)
 
-  -- no byte stands far back
-  pub length_few : length_for (plan_of bs) ≤ 800
-  unfolding length_for
-  length_few = let b = accepted_bounded bs accepted in omega arith
+    first : take (s + k) (put_mid s (s + k - s) (xs ++ drop s out) ys) ≡ xs ++ ys
+    first = take-put_mid s (s + k - s) (xs ++ drop s out) ys (s + k) (omega arith) long ∙ ap (λ (a : List ℕ). a ++ ys) (take_at xs (drop s out) s ex)
 
-  module _ (i : ℕ) where
-    pub zeroed_first : i < labels_at bs → byte_at (zeroed bs labels) i ≡ byte_at bs i
-    zeroed_first h = first_byte bs (zeros labels) (reaches bs accepted) i h
-
-    pub zeroed_label : labels_at bs ≤ i → i < labels_at bs + labels → byte_at (zeroed bs labels) i ≡ 0
-    zeroed_label h k =
-        let x = i - labels_at bs in
-        let e : i ≡ labels_at bs + x = omega arith in
-        ap (byte_at (zeroed bs labels)) e ∙ label_byte bs (zeros labels) (reaches bs accepted) x (rw zeros_length (omega arith)) ∙ get_or-replicate labels x 0 0 (omega arith)
-
-    pub zeroed_rest : labels_at bs + labels ≤ i → byte_at (zeroed bs labels) i ≡ byte_at bs (i - labels + label_bytes bs)
-    zeroed_rest h =
-        let j = i - (labels_at bs + labels) in
-        let e : i ≡ labels_at bs + (length (zeros labels) + j) = rw zeros_length (omega arith) in
-        let f : labels_at bs + label_bytes bs + j ≡ i - labels + label_bytes bs = omega arith in
-        ap (byte_at (zeroed bs labels)) e ∙ rest_byte bs (zeros labels) (reaches bs accepted) j ∙ ap (byte_at bs) f
-
--- ---- the first i bytes of the new ones stand before what is left of `out`
-pub record Written (new : List ℕ) (i : ℕ) (out now : List ℕ) : Type 0 where
-  pub now_is : now ≡ take i new ++ drop i out
-  pub length_is : length now ≡ length out
-
-pub written_none : (new out : List ℕ) → Written new 0 out out
-written_none new out = record { now_is = refl; length_is = refl }
-
-module _ {new : List ℕ} {i : ℕ} {out now : List ℕ} (w : Written new i out now) where
-  pub written_more : {v : ℕ} → i < length new → i < length out → v ≡ byte_at new i → Written new (i + 1) out (set now i v)
-  unfolding byte_at
-  written_more {v} h k e = record {
-    now_is = ap (λ (l : List ℕ). set l i v) (w.now_is ∙ ap (λ (l : List ℕ). take i new ++ l) (drop-cons out i 0 k)) ∙ set_at (take i new) (get_or out i 0) (drop (suc i) out) v i (length-take-le i new (omega arith)) ∙ sym (append_snoc (take i new) v (drop (suc i) out)) ∙ rw (add-one, take-suc new i 0 h, e);
-    length_is = length-set now i v ∙ w.length_is;
-  }
-
-  pub written_all : (end : ℕ) → i ≡ end → end ≡ length new → now ≡ new ++ drop end out
-  written_all end e f = rw (← e) (w.now_is ∙ ap (λ (l : List ℕ). l ++ drop i out) (take_all i new (omega arith)))
+    last : drop (n + k - (s + k)) (drop (s + k) (put_mid s (s + k - s) (xs ++ drop s out) ys)) ≡ drop (n + k) out
+    last =
+        drop-drop (n + k - (s + k)) (s + k) _ ∙ ap (λ i. drop i (put_mid s (s + k - s) (xs ++ drop s out) ys)) (omega arith)
+        ∙ drop-put_mid s (s + k - s) (xs ++ drop s out) ys (n + k) (omega arith) long (omega arith) ∙ drop-append-drop s out xs (n + k) (omega arith) ex

@@ -1,11 +1,11 @@
 -- What the conversions answer, and what the lent output then holds (22.9, 22.10).
-use Rattle.std.specs.Prelude.{Bool, cond, not, List, ◌++◌, ℕ, ltb, eqb, length, drop}
+use Rattle.std.specs.Prelude.{Bool, cond, not, List, ◌++◌, ℕ, Result, Ok, Err, ltb, eqb, length, drop}
 use Rattle.plan.specs.Plan.{Plan}
 use Rattle.plan.specs.Layout.{plan_of, length_for, labelled_length_for}
 use Rattle.plan.specs.Forms.{with_labels, without_labels}
+use Rattle.plan.specs.Numbers.{number_of}
 use Rattle.plan.specs.Refusal.{every, refusal}
-use Rattle.conversion.specs.declared.Converted.{Converted}
-use Rattle.conversion.specs.declared.Converted.TheVariants.{Length, Refused}
+use Rattle.plan.specs.declared.refusal.Refusal.{Refusal}
 
 -- 22.9: the length of the plan in the other form, or the number of a refusal
 pub data ConversionOutcome : Type 0 where
@@ -13,9 +13,9 @@ pub data ConversionOutcome : Type 0 where
   refused : ℕ → ConversionOutcome
 
 -- 22.9: the outcome that the code's answer stands for
-abbrev pub outcome_of : Converted → ConversionOutcome
-outcome_of (Length n) = converted n
-outcome_of (Refused n) = refused n
+abbrev pub outcome_of : Result ℕ Refusal → ConversionOutcome
+outcome_of (Ok n) = converted n
+outcome_of (Err refusal) = refused (number_of refusal)
 
 -- 22.9: the refusal of a plan, whose length has to be that of the form that a conversion starts from: judged after 2, and before all else
 unfoldable pub start_refusal : List ℕ → ℕ → ℕ

@@ -5,10 +5,3 @@ mod converting;
 mod writing;
 
 pub use converting::{with_labels, without_labels};
-
-// What a conversion answers: the length of what it wrote, or the number of the refusal; specs/Conversion says what each stands for.
-#[derive(Clone, Copy)]
-pub enum Converted {
-    Length(usize),
-    Refused(u32),
-}

@@ -1,5 +1,7 @@
 -- What a C caller sees of an answer (14.2, 14.3): a code, and numbers in a lent slice. A slice that lacks an entry keeps what it has (`set` past the end).
-use Rattle.std.specs.Prelude.{List, ℕ, ◌+◌, set}
+use Rattle.std.specs.Prelude.{List, ℕ, Result, Ok, Err, ◌+◌, set}
+use Rattle.plan.specs.Numbers.{number_of}
+use Rattle.plan.specs.declared.refusal.Refusal.{Refusal}
 use Rattle.rounds_making.specs.Outcomes.{Outcome, kept, broken, spent, refused}
 use Rattle.page.specs.Page as page
 use Rattle.minimal_rows.specs.BreakingRows as breaking
@@ -59,3 +61,12 @@ conversion_code (conversion.refused n) = 100 + n
 abbrev pub conversion_numbers : conversion.ConversionOutcome → List ℕ → List ℕ
 conversion_numbers (conversion.converted n) ns = set ns 0 n
 conversion_numbers (conversion.refused n) ns = ns
+
+-- For inner contracts only: the code and the numbers of such a call by what it answers in the code. `CodeLaws` says that these are the three above.
+abbrev pub result_code : Result ℕ Refusal → ℕ
+result_code (Ok n) = 0
+result_code (Err refusal) = 100 + number_of refusal
+
+abbrev pub result_numbers : Result ℕ Refusal → List ℕ → List ℕ
+result_numbers (Ok n) ns = set ns 0 n
+result_numbers (Err refusal) ns = ns

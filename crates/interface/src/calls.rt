@@ -20,9 +20,9 @@ pub extern "C" fn sulgrach_check(
 ) -> u32
     ensures { AfterCheckCall plan.now limit (moments first) (moments second) (moments rounds) result }
 {
-    let answer = check(plan, first, second, limit);
-    put_count(rounds, answer);
-    code(answer)
+    let answered = check(plan, first, second, limit);
+    put_count(rounds, answered);
+    code(answered)
 }
 
 // The check by classes: the answer's code, and in rounds[0] the count.
@@ -37,9 +37,9 @@ pub extern "C" fn sulgrach_check_classes(
 ) -> u32
     ensures { AfterCheckClassesCall house plan.now classes.now limit (moments first) (moments second) (moments rounds) result }
 {
-    let answer = check_classes(plan, classes, first, second, limit);
-    put_count(rounds, answer);
-    code(answer)
+    let answered = check_classes(plan, classes, first, second, limit);
+    put_count(rounds, answered);
+    code(answered)
 }
 
 // Replay: 0 where the listing is a derivation to "the first alarm waits for itself", else the number of the refusal.
@@ -47,5 +47,8 @@ pub extern "C" fn sulgrach_check_classes(
 pub extern "C" fn sulgrach_replay(plan: &[u8], listing: &[u8]) -> u32
     ensures { AfterReplay plan.now listing.now result }
 {
-    replay(plan, listing)
+    match replay(plan, listing) {
+        Ok(()) => 0,
+        Err(refusal) => u32::from(refusal),
+    }
 }

@@ -1,36 +1,37 @@
 // The C call of the listing.
 ghost use Rattle.std.specs.Prelude.{◌≡◌};
 ghost use Rattle.plan.specs.Moments.{SameLength, moments};
-ghost use Rattle.rounds_making.specs.Outcomes.{outcome_of};
+ghost use Rattle.rounds_making.specs.Outcomes.{outcome_of_check};
 ghost use Rattle.listing.specs.ListOutcomes.{answer_of, length_of};
 ghost use Rattle.interface.specs.Codes.{length_into};
 ghost use Rattle.interface.specs.Calls.{AfterListCall};
 
 use crate::answers::{code, put_count, put_number};
 use listing::{Listed, list};
+use plan::Refusal;
 use rounds::Answer;
 
 // The listing answers as the check does.
-fn answer(listed: Listed) -> Answer
-    ensures { outcome_of result ≡ answer_of listed }
+fn answer(listed: Result<Listed, Refusal>) -> Result<Answer, Refusal>
+    ensures { outcome_of_check result ≡ answer_of listed }
 {
     match listed {
-        Listed::Kept(r) => Answer::Kept(r),
-        Listed::Broken(r, _) => Answer::Broken(r),
-        Listed::Spent(r) => Answer::Spent(r),
-        Listed::Refused(number) => Answer::Refused(number),
+        Ok(Listed::Kept(r)) => Ok(Answer::Kept(r)),
+        Ok(Listed::Broken(r, _)) => Ok(Answer::Broken(r)),
+        Ok(Listed::Spent(r)) => Ok(Answer::Spent(r)),
+        Err(refusal) => Err(refusal),
     }
 }
 
-fn put_length(numbers: &mut [u64], listed: Listed)
+fn put_length(numbers: &mut [u64], listed: Result<Listed, Refusal>)
     ensures numbers_value { numbers.new ≡ length_into (answer_of listed) (length_of listed) numbers.old }
     ensures same_length { SameLength numbers }
 {
     match listed {
-        Listed::Kept(_) => {}
-        Listed::Broken(_, bytes) => put_number(numbers, 1, bytes as u64),
-        Listed::Spent(_) => {}
-        Listed::Refused(_) => {}
+        Ok(Listed::Kept(_)) => {}
+        Ok(Listed::Broken(_, bytes)) => put_number(numbers, 1, bytes as u64),
+        Ok(Listed::Spent(_)) => {}
+        Err(_) => {}
     }
 }
 

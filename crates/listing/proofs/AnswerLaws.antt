@@ -7,7 +7,7 @@ use native.Mathlib.Decide.{dec_le}
 use native.Mathlib.Omega.{arith}
 use borrow.Author.Tests.{lt-ltb, le-ltb, eq-eqb, ne_eqb}
 use lib.Dec.{ltb, eqb}
-use lib.ListN.{length, take, drop, take-append-drop, length-append, length-drop}
+use lib.ListN.{length, take, drop, length-append, length-drop}
 use lib.Seq.{length-take-le, take_at, drop_at}
 use Rattle.plan.specs.Moments.{Moments}
 use Rattle.plan.specs.Plan.{Plan, cells}
@@ -35,24 +35,8 @@ use Rattle.listing.specs.Answering.{BrokenTables, BrokenLent, BrokenWith, Listin
 pub cut_length : (n : ℕ) (xs : List ℕ) → n ≤ length xs → n ≡ length (take n xs)
 cut_length n xs h = sym (length-take-le n xs h)
 
--- a part that holds what it held
-back_same : (n : ℕ) (xs A Y : List ℕ) → take n xs ≡ A → Y ≡ A → Y ++ drop n xs ≡ xs
-back_same n xs A Y e f = ap (λ (l : List ℕ). l ++ drop n xs) (f ∙ sym e) ∙ take-append-drop n xs
-
 -- the code's number e is the cells
 module _ (plan F G : List ℕ) (r e : ℕ) (k : BrokenTables plan F G r) (ee : e ≡ cells (plan_of plan)) where
-  pub first_cut : (e ≡ length (take e F)) × (length (take e F) ≡ cells (plan_of plan))
-  first_cut = let z = cut_length e F (omega (arith, k.long_first)) in (z, sym z ∙ ee)
-
-  pub second_cut : (e ≡ length (take e G)) × (length (take e G) ≡ cells (plan_of plan))
-  second_cut = let z = cut_length e G (omega (arith, k.long_second)) in (z, sym z ∙ ee)
-
-  pub first_back : (Y : List ℕ) → Y ≡ table (plan_of plan) r → Y ++ drop e F ≡ F
-  first_back Y f = back_same e F (table (plan_of plan) r) Y (ap (λ (n : ℕ). take n F) ee ∙ k.first_holds) f
-
-  pub second_back : (Y : List ℕ) → Y ≡ table (plan_of plan) r → Y ++ drop e G ≡ G
-  second_back Y f = back_same e G (table (plan_of plan) r) Y (ap (λ (n : ℕ). take n G) ee ∙ k.second_holds) f
-
   -- the 16-bit table and the output
   pub listing_left : (b : ℕ) (I out X O : List ℕ) → cells (plan_of plan) ≤ length I → b ≡ listing_length (plan_of plan) r → b ≤ length out → X ≡ index_table (plan_of plan) (listing_lines (plan_of plan) r) → Listing plan O r → length O ≡ length (take b out) → ListingLeft plan r I out (X ++ drop e I) (O ++ drop b out)
   listing_left b I out X O h is_length room ex l eo = record {
@@ -115,24 +99,8 @@ module _ (plan I out : List ℕ) where
   pub answered_broken : (r b : ℕ) (I' out' : List ℕ) → too_long (plan_of plan) r (length out) ≡ false → b ≡ listing_length (plan_of plan) r → ListingLeft plan r I out I' out' → Answered plan (broken r) (broken r) b I out I' out'
   answered_broken r b I' out' e eb h = record { answer_is = rw e refl; length_is = eb; index_is = h.index_is; output_is = h.handed; index_length = h.index_length; output_length = h.handed.as_long }
 
-  pub answered_kept : (o : Outcome) (r : ℕ) → o ≡ kept r → Answered plan o (kept r) 0 I out I out
-  answered_kept o r e = record { answer_is = rw e refl; length_is = refl; index_is = refl; output_is = refl; index_length = refl; output_length = refl }
-
-  pub answered_spent : (o : Outcome) (r : ℕ) → o ≡ spent r → Answered plan o (spent r) 0 I out I out
-  answered_spent o r e = record { answer_is = rw e refl; length_is = refl; index_is = refl; output_is = refl; index_length = refl; output_length = refl }
-
   pub answered_refused : (o : Outcome) (n : ℕ) → o ≡ refused n → Answered plan o (refused n) 0 I out I out
   answered_refused o n e = record { answer_is = rw e refl; length_is = refl; index_is = refl; output_is = refl; index_length = refl; output_length = refl }
-
-  pub answered_as : (o : Outcome) (r : ℕ) (a : Outcome) (b : ℕ) (I' out' : List ℕ) → o ≡ broken r → Answered plan (broken r) a b I out I' out' → Answered plan o a b I out I' out'
-  answered_as o r a b I' out' e h = subst (λ (x : Outcome). Answered plan x a b I out I' out') (sym e) h
-
-pub broken_as : (plan F G I : List ℕ) (o : Outcome) (r : ℕ) → o ≡ broken r → BrokenWith plan F G I o → BrokenLent plan F G I r
-broken_as plan F G I o r e h = rw e at h
-
--- the tables are as they were
-pub broken_on : (plan F G I F' G' : List ℕ) (r : ℕ) → F' ≡ F → G' ≡ G → BrokenLent plan F G I r → BrokenLent plan F' G' I r
-broken_on plan F G I F' G' r f g h = subst (λ (x : List ℕ). BrokenLent plan F' x I r) (sym g) (subst (λ (x : List ℕ). BrokenLent plan x G I r) (sym f) h)
 
 -- ---- after the check
 module _ (plan F G : List ℕ) (limit : ℕ) (accepted : Accepted plan) where

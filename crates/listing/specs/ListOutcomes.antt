@@ -1,28 +1,30 @@
 -- What the listing answers and what lent memory then holds (10.6 to 10.10).
-use Rattle.std.specs.Prelude.{◌≡◌, Bool, ◌&&◌, ◌||◌, List, ◌++◌, ℕ, ◌+◌, ◌*◌, ltb, eqb, length, take, drop}
+use Rattle.std.specs.Prelude.{◌≡◌, Bool, ◌&&◌, ◌||◌, List, ◌++◌, ℕ, ◌+◌, ◌*◌, ltb, eqb, length, take, drop, Result, Ok, Err}
 use Rattle.plan.specs.Plan.{Plan, cells}
 use Rattle.plan.specs.Layout.{plan_of}
+use Rattle.plan.specs.Numbers.{number_of}
 use Rattle.plan.specs.Refusal.{refusal}
+use Rattle.plan.specs.declared.refusal.Refusal.{Refusal}
 use Rattle.rounds_making.specs.Outcomes.{Outcome, kept, broken, spent, refused, pick}
 use Rattle.rounds.specs.CheckOutcomes.{pick_table, check_outcome, check_table}
 use Rattle.listing.specs.declared.Listed.{Listed}
-use Rattle.listing.specs.declared.Listed.TheVariants.{Kept, Broken, Spent, Refused}
+use Rattle.listing.specs.declared.Listed.TheVariants.{Kept, Broken, Spent}
 use Rattle.listing_lines.specs.Listed.{listing_lines, index_table}
 use Rattle.listing_lines.specs.Handed.{Listing}
 
 -- 10.6: the outcome that the code's answer stands for
-abbrev pub answer_of : Listed → Outcome
-answer_of (Kept r) = kept r
-answer_of (Broken r n) = broken r
-answer_of (Spent r) = spent r
-answer_of (Refused n) = refused n
+abbrev pub answer_of : Result Listed Refusal → Outcome
+answer_of (Ok (Kept r)) = kept r
+answer_of (Ok (Broken r n)) = broken r
+answer_of (Ok (Spent r)) = spent r
+answer_of (Err refusal) = refused (number_of refusal)
 
 -- 10.6: the length that the code's answer carries, 0 where it carries none
-abbrev pub length_of : Listed → ℕ
-length_of (Kept r) = 0
-length_of (Broken r n) = n
-length_of (Spent r) = 0
-length_of (Refused n) = 0
+abbrev pub length_of : Result Listed Refusal → ℕ
+length_of (Ok (Kept r)) = 0
+length_of (Ok (Broken r n)) = n
+length_of (Ok (Spent r)) = 0
+length_of (Err refusal) = 0
 
 -- 10.2: the length of the listing of a plan that breaks in round r
 unfoldable pub listing_length : Plan → ℕ → ℕ

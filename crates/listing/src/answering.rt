@@ -10,7 +10,7 @@ ghost use Rattle.listing.specs.Answering.{BrokenTables, BrokenLent, BrokenWith, 
 
 use crate::Listed;
 use listing_write::{count_lines, write_listing};
-use plan::{cells, widen_word};
+use plan::{Refusal, cells};
 use plan_refusal::refusal;
 use rounds::{Answer, check};
 
@@ -55,7 +55,7 @@ fn lines_of(plan: &[u8], first: &mut [u32], second: &mut [u32], r: u64) -> usize
     ensures second_value { second.new ≡ second.old }
 {
     let end = cells(plan);
-    widen_word(count_lines(plan, &mut first[..end], &mut second[..end], r))
+    usize::from(count_lines(plan, &mut first[..end], &mut second[..end], r))
 }
 
 // Where the plan broke in round r. Refusal 7 is decided before anything is written.
@@ -66,24 +66,21 @@ fn list_broken(
     index: &mut [u16],
     out: &mut [u8],
     r: u64,
-) -> Listed
+) -> Result<Listed, Refusal>
     requires { BrokenLent plan.now first.old second.old index.old r }
     ensures first_value { first.new ≡ first.old }
     ensures second_value { second.new ≡ second.old }
     ensures answered { Answered plan.now (broken r) (answer_of result) (length_of result) index.old out.old index.new out.new }
 {
     if MOST_ROUNDS < r {
-        return Listed::Refused(7);
+        return Err(Refusal::ShortOutput);
     }
     let m = lines_of(plan, first, second, r);
-    if MOST < m {
-        return Listed::Refused(7);
-    }
-    if out.len() < 2 + 14 * m {
-        return Listed::Refused(7);
+    if MOST < m || out.len() < 2 + 14 * m {
+        return Err(Refusal::ShortOutput);
     }
     write_out(plan, first, second, index, out, m, r);
-    Listed::Broken(r, 2 + 14 * m)
+    Ok(Listed::Broken(r, 2 + 14 * m))
 }
 
 // By the check's answer.
@@ -94,17 +91,16 @@ fn list_checked(
     index: &mut [u16],
     out: &mut [u8],
     answer: Answer,
-) -> Listed
+) -> Result<Listed, Refusal>
     requires { BrokenWith plan.now first.old second.old index.old (outcome_of answer) }
     ensures first_value { first.new ≡ first.old }
     ensures second_value { second.new ≡ second.old }
     ensures answered { Answered plan.now (outcome_of answer) (answer_of result) (length_of result) index.old out.old index.new out.new }
 {
     match answer {
-        Answer::Kept(r) => Listed::Kept(r),
+        Answer::Kept(r) => Ok(Listed::Kept(r)),
         Answer::Broken(r) => list_broken(plan, first, second, index, out, r),
-        Answer::Spent(n) => Listed::Spent(n),
-        Answer::Refused(n) => Listed::Refused(n),
+        Answer::Spent(n) => Ok(Listed::Spent(n)),
     }
 }
 
@@ -117,17 +113,13 @@ pub fn list(
     limit: u64,
     index: &mut [u16],
     out: &mut [u8],
-) -> Listed
+) -> Result<Listed, Refusal>
     ensures { AfterList plan.now limit (moments first) (moments second) (moments index) (moments out) (answer_of result) (length_of result) }
 {
-    let number = refusal(plan);
-    if number != 0 {
-        return Listed::Refused(number);
+    refusal(plan)?;
+    if index.len() < cells(plan) {
+        return Err(Refusal::ShortTable);
     }
-    let end = cells(plan);
-    if index.len() < end {
-        return Listed::Refused(6);
-    }
-    let answer = check(plan, first, second, limit);
+    let answer = check(plan, first, second, limit)?;
     list_checked(plan, first, second, index, out, answer)
 }

@@ -1,7 +1,7 @@
 -- A run of bytes put into a listing: what it holds there, and that all else stays; then one line's head and ground.
 use mathlib.Core.Path.{◌≡◌, refl, sym, ap, ap₂, subst, ◌∙◌}
 use mathlib.Core.List.{List, [], ◌∷◌, ◌++◌}
-use mathlib.Core.Option.{some}
+use Rattle.std.specs.Prelude.{Some}
 use Prim.Native.Nat.{ℕ, zero, suc, ◌+◌, ◌*◌, ◌/◌, ◌%◌, ◌-◌, ◌≤◌, ◌<◌}
 use native.Mathlib.Nat.{div-add-mod'}
 use native.Mathlib.Decide.{dec_lt}
@@ -69,12 +69,12 @@ count_put bs cs m h e = rw (e, sets_inside (word_bytes m) bs 0 0 (omega arith) h
 -- ---- a rule and its row are named by their numbers
 module _ (P : Plan) (some_point : 0 < P.points) where
   -- from row e + n on
-  bound_named : (b : ℕ) (r : Rule) → bound_rule P b ≡ some r → rule_of P 1 (P.edges + P.points + b) ≡ some r
+  bound_named : (b : ℕ) (r : Rule) → bound_rule P b ≡ Some r → rule_of P 1 (P.edges + P.points + b) ≡ Some r
   bound_named b r h =
       let d : P.edges + P.points + b - (P.edges + P.points) ≡ b = omega arith in
       rw (le-ltb (P.edges + P.points + b) P.edges (omega arith), ne_eqb (P.edges + P.points + b) P.edges (omega arith), le-ltb (P.edges + P.points + b) (P.edges + P.points) (omega arith), d) h
 
-  pub rule_named : (r : Rule) → InPlan P r → rule_of P (rule_number r) (row_number P r) ≡ some r
+  pub rule_named : (r : Rule) → InPlan P r → rule_of P (rule_number r) (row_number P r) ≡ Some r
   rule_named (Propagation (PlanEdge i)) h = rw (lt-ltb i P.edges h) refl
   rule_named (Propagation (HorizonEdge x)) h =
       let d : P.edges + x - P.edges ≡ x = omega arith in

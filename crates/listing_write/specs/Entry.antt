@@ -1,6 +1,5 @@
 -- For inner contracts only: the bytes of one line of a listing (10.2), and what putting them there changes. Nothing here is to be believed.
-use Rattle.std.specs.Prelude.{◌≡◌, cond, List, [], ◌∷◌, ◌++◌, ℕ, ◌+◌, ◌*◌, ◌/◌, ◌%◌, ◌≤◌, ◌<◌, length}
-use Rattle.std.proofs.Math.Option.{some}
+use Rattle.std.specs.Prelude.{◌≡◌, cond, Some, List, [], ◌∷◌, ◌++◌, ℕ, ◌+◌, ◌*◌, ◌/◌, ◌%◌, ◌≤◌, ◌<◌, length}
 use Rattle.plan.specs.Plan.{Plan}
 use Rattle.plan.specs.Refusal.{Accepted}
 use Rattle.rules.specs.declared.Ground.{Ground}
@@ -86,7 +85,7 @@ pub record LinePut (P : Plan) (m i : ℕ) (l : Line) (g : Ground) (bs cs : List 
   pub as_long : length cs ≡ length bs
   pub counted : line_count cs ≡ line_count bs
   pub line_is : head_line cs i ≡ l
-  pub rule_is : rule_of P (head_rule cs i) (row_of cs i) ≡ some g.by
+  pub rule_is : rule_of P (head_rule cs i) (row_of cs i) ≡ Some g.by
   pub first_is : first_parent cs i ≡ g.first
   pub second_is : second_parent cs i ≡ second_number g.by g.second
   pub others : (j : ℕ) → j < m → (j ≡ i → ⊥) → SameFields bs cs j

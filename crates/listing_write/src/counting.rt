@@ -1,5 +1,5 @@
 // How many lines the listing of a broken plan has, counted in 16 bits as far as 4,097.
-ghost use Rattle.std.specs.Prelude.{◌≡◌, ◌+◌, ◌≤◌, min, length};
+ghost use Rattle.std.specs.Prelude.{◌≡◌, ◌≤◌, min, length};
 ghost use Rattle.plan.specs.Moments.{SameLength};
 ghost use Rattle.plan.specs.Plan.{Plan};
 ghost use Rattle.plan.specs.Layout.{plan_of};
@@ -16,16 +16,6 @@ use rules_fill::copy_cells;
 // Nothing needs the count beyond 4,097.
 const MANY: u16 = 4097;
 
-fn one_more(lines: u16) -> u16
-    requires { lines ≤ 4097 }
-    ensures { result ≡ min 4097 (lines + 1) }
-{
-    if lines < MANY {
-        return lines + 1;
-    }
-    MANY
-}
-
 // Lines counted so far and the cells that a round raised.
 fn count_raised(first: &[u32], second: &[u32], lines: u16) -> u16
     requires { (length second.now ≡ length first.now) × (lines ≤ 4097) }
@@ -35,7 +25,7 @@ fn count_raised(first: &[u32], second: &[u32], lines: u16) -> u16
     let mut count = lines;
     for c in 0..end {
         if first[c] < second[c] {
-            count = one_more(count);
+            count = (count + 1).min(MANY);
         }
     }
     count

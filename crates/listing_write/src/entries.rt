@@ -1,5 +1,5 @@
 // The lines of one round, written with their grounds.
-ghost use Rattle.std.specs.Prelude.{◌≡◌, [], ◌∷◌, ◌+◌, ◌<◌, length, get_or};
+ghost use Rattle.std.specs.Prelude.{◌≡◌, [], ◌∷◌, ◌+◌, length};
 ghost use Rattle.plan.specs.Moments.{SameLength};
 ghost use Rattle.plan.specs.Layout.{plan_of};
 ghost use Rattle.rules.specs.Lines.{line_at};
@@ -9,18 +9,10 @@ ghost use Rattle.listing_write.specs.Progress.{all_raised, Appends};
 ghost use Rattle.listing_write.specs.Entries.{FoundReady, PutBy, Raised, CellReady, CellsReady};
 
 use crate::entry::put_line;
-use plan::widen_word;
 use rules::{Ground, Line};
-use rules_ground::{Found, find_ground, frame_of, line_at};
+use rules_ground::{find_ground, frame_of, line_at};
 
-// The number that the 16-bit table has for a cell.
-fn number_at(index: &[u16], c: usize) -> usize
-    requires { c < length index.now }
-    ensures { (result ≡ get_or index.now c 0) × (result < 65536) }
-{
-    widen_word(index[c])
-}
-
+// What was found has cells for its parents: their numbers stand in the 16-bit table.
 fn put_found(
     plan: &[u8],
     index: &[u16],
@@ -28,23 +20,19 @@ fn put_found(
     m: usize,
     i: usize,
     line: Line,
-    found: Found,
+    found: Option<Ground>,
 )
     requires { LineReady plan.now out.old m i line × FoundReady plan.now index.now found }
     ensures put_by { PutBy (plan_of plan.now) m i line index.now found out.old out.new }
     ensures same_length { SameLength out }
 {
-    match found {
-        Found::At(ground) => {
-            let by = ground.by;
-            let numbered = Ground {
-                by: by,
-                first: number_at(index, ground.first),
-                second: number_at(index, ground.second),
-            };
-            put_line(plan, out, m, i, line, numbered);
-        }
-        Found::Nothing => {}
+    if let Some(ground) = found {
+        let numbered = Ground {
+            by: ground.by,
+            first: usize::from(index[ground.first]),
+            second: usize::from(index[ground.second]),
+        };
+        put_line(plan, out, m, i, line, numbered);
     }
 }
 

@@ -6,7 +6,7 @@ ghost use Rattle.plan.specs.Layout.{plan_of};
 ghost use Rattle.rules_ground.specs.Frames.{Fitting};
 ghost use Rattle.listing_write.specs.Entry.{head_bytes, ground_bytes, LineReady, GroundReady, LinePut};
 
-use crate::bytes::{put_byte, put_word};
+use crate::bytes::put_word;
 use crate::numbers::{row_number, rule_number, second_number};
 use rules::{Ground, Line};
 
@@ -15,10 +15,10 @@ fn put_head(out: &mut [u8], at: usize, line: Line, rule: usize)
     ensures out_value { out.new ≡ sets out.old at (head_bytes line rule) }
     ensures same_length { SameLength out }
 {
-    put_byte(out, at, line.point);
-    put_byte(out, at + 1, line.set);
-    put_byte(out, at + 2, line.label);
-    put_byte(out, at + 3, rule);
+    out[at] = line.point as u8;
+    out[at + 1] = line.set as u8;
+    out[at + 2] = line.label as u8;
+    out[at + 3] = rule as u8;
     put_word(out, at + 4, (line.wait / 65536) as usize);
     put_word(out, at + 6, (line.wait % 65536) as usize);
 }

@@ -1,5 +1,5 @@
 // The 16-bit table: for each cell the number of its last line.
-ghost use Rattle.std.specs.Prelude.{◌≡◌, [], ◌+◌, ◌<◌, length, set};
+ghost use Rattle.std.specs.Prelude.{◌≡◌, [], ◌+◌, ◌<◌, length};
 ghost use Rattle.plan.specs.Moments.{SameLength};
 ghost use Rattle.plan.specs.Plan.{Plan, width as width_of, cells as cells_of};
 ghost use Rattle.plan.specs.Layout.{plan_of};
@@ -9,23 +9,12 @@ ghost use Rattle.listing_write.specs.Progress.{all_raised, NumbersReady, CellNum
 
 use plan::{points, width as width_for};
 
-pub fn put_number(index: &mut [u16], c: usize, number: usize)
-    requires { (c < length index.old) × (number < 65536) }
-    ensures index_value { index.new ≡ set index.old c number }
-    ensures same_length { SameLength index }
-{
-    index[c] = number as u16;
-}
-
 // The point of a starting cell; 0 for another cell. The width is a power of 2, so that a mask finds the starting cells without a division.
 fn start_number(width: usize, c: usize) -> usize
     requires { (0 < width) × (c < 65536) }
     ensures { ((P : Plan) → width ≡ width_of P → result ≡ start_number P c) × (result < 65536) }
 {
-    if c & (width - 1) != 0 {
-        return 0;
-    }
-    c / width
+    if c & (width - 1) == 0 { c / width } else { 0 }
 }
 
 // The table with no line listed.
@@ -37,7 +26,7 @@ pub fn start_index(plan: &[u8], index: &mut [u16])
     let width = width_for(plan);
     let end = index.len();
     for c in 0..end {
-        put_number(index, c, start_number(width, c));
+        index[c] = start_number(width, c) as u16;
     }
 }
 
@@ -51,7 +40,7 @@ fn number_cell(first: &[u32], second: &[u32], index: &mut [u16], i: usize, c: us
     if second[c] <= first[c] {
         return i;
     }
-    put_number(index, c, i);
+    index[c] = i as u16;
     i + 1
 }
 

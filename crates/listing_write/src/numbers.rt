@@ -7,7 +7,7 @@ ghost use Rattle.rules.specs.declared.Rule.TheVariants as rule;
 ghost use Rattle.listing_write.specs.Entry.{rule_number, edge_number, row_number, second_number};
 
 use plan::{edges, points};
-use rules::{Edge, Rule, uses_second};
+use rules::{Edge, Rule};
 
 pub fn rule_number(by: Rule) -> usize
     ensures { (result ≡ rule_number by) × (result < 256) }
@@ -40,11 +40,8 @@ pub fn row_number(plan: &[u8], by: Rule) -> usize
 {
     match by {
         Rule::Propagation(e) => edge_number(plan, e),
-        Rule::LowerCase(i) => i,
-        Rule::UpperCase(i) => i,
-        Rule::LetterRemoval(i) => i,
-        Rule::OwnLiteral(j) => j,
-        Rule::LiteralRemoval(j) => j,
+        Rule::LowerCase(i) | Rule::UpperCase(i) | Rule::LetterRemoval(i) => i,
+        Rule::OwnLiteral(j) | Rule::LiteralRemoval(j) => j,
     }
 }
 
@@ -53,8 +50,5 @@ pub fn second_number(by: Rule, second: usize) -> usize
     requires { second < 65536 }
     ensures { (result ≡ second_number by second) × (result < 65536) }
 {
-    if uses_second(by) {
-        return second;
-    }
-    0
+    if by.uses_second() { second } else { 0 }
 }

@@ -11,7 +11,7 @@ ghost use Rattle.listing_write.specs.RoundLines.{lowest_line, last_line_of, Roun
 
 use crate::bytes::put_word;
 use crate::entries::{list_cells, list_raised};
-use crate::index::{number_cells, put_number, start_index};
+use crate::index::{number_cells, start_index};
 use plan::{cells, horizon as horizon_of, plain_marks, points, width as width_of};
 use rounds_tables::{clear_cells, round};
 use rules_fill::copy_cells;
@@ -96,7 +96,7 @@ fn list_lowest(
     let last = m - 1;
     list_raised(plan, marks, horizon, first, second, index, out, m, last, c);
     let n = points(plan);
-    put_number(index, c, n + last);
+    index[c] = (n + last) as u16;
 }
 
 // The round in which the plan breaks.

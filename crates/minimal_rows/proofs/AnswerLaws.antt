@@ -24,7 +24,8 @@ use Rattle.plan.proofs.RefusalNumbers.{at_most, refusal_few, refusal_never}
 use Rattle.minimal_rows.specs.Trials.{trial_outcome, trial_table, is_kept, is_broken, all_rows, breaking_marks}
 use Rattle.minimal_rows.specs.BreakingRows.{rows, refused, rows_too_short, rows_refusal, rows_outcome, rows_marks, rows_table}
 use Rattle.minimal_rows.specs.AfterBreakingRows.{AfterBreakingRows}
-use Rattle.minimal_rows.specs.Reducing.{ReduceLent, RowsLeft}
+use Rattle.minimal_rows.specs.Lent.{MarksLent}
+use Rattle.minimal_rows.specs.Reducing.{RowsLeft}
 use Rattle.minimal_rows.proofs.TrialLaws.{trial_means, whole_outcome, whole_table, whole_kept, whole_broken}
 use Rattle.minimal_rows.proofs.ProcedureLaws.{tried_length, breaking_minimal, links_alone}
 
@@ -69,10 +70,10 @@ module _ (bs F G R : List ℕ) where
   unfolding rows_refusal
   number_short a s = rw (eq-eqb (refusal bs) 0 a, s) refl
 
-  module _ (lent : ReduceLent bs F G R) where
+  module _ (accepted : Accepted bs) (lent : MarksLent (plan_of bs) F G R) where
     number_judged : (b : Bool) → is_kept (trial_outcome (plan_of bs) (all_rows (plan_of bs))) ≡ b → rows_refusal bs F G R ≡ cond b 16 0
     unfolding rows_refusal
-    number_judged b k = rw (eq-eqb (refusal bs) 0 lent.accepted, le-ltb (length F) (cells (plan_of bs)) lent.long_first, le-ltb (length G) (cells (plan_of bs)) lent.long_second, le-ltb (length R) (plan_of bs).edges lent.long_marks, k) refl
+    number_judged b k = rw (eq-eqb (refusal bs) 0 accepted, le-ltb (length F) (cells (plan_of bs)) lent.tables.long_first, le-ltb (length G) (cells (plan_of bs)) lent.tables.long_second, le-ltb (length R) (plan_of bs).edges lent.long_marks, k) refl
 
 -- its number is small
 pub rows_refusal_few : (bs F G R : List ℕ) → rows_refusal bs F G R ≤ 18
@@ -115,7 +116,7 @@ module _ (bs : List ℕ) (first second marks : Moments) where
   pub short_refused : Accepted bs → rows_too_short (plan_of bs) first.entry second.entry marks.entry ≡ true → first.exit ≡ first.entry → second.exit ≡ second.entry → marks.exit ≡ marks.entry → AfterBreakingRows bs first second marks (refused 6)
   short_refused a s = after_refusal 6 (number_short bs first.entry second.entry marks.entry a s) (λ q. omega arith) (λ q. omega arith)
 
-  module _ (lent : ReduceLent bs first.entry second.entry marks.entry) where
+  module _ (accepted : Accepted bs) (lent : MarksLent (plan_of bs) first.entry second.entry marks.entry) where
     abbrev P : Plan
     P = plan_of bs
 
@@ -127,8 +128,8 @@ module _ (bs : List ℕ) (first second marks : Moments) where
     kept_refused : is_broken (run_outcome P (zeros P) (enough_rounds P)) ≡ false → first.exit ≡ run_table P (zeros P) (enough_rounds P) ++ drop (cells P) first.entry → second.exit ≡ run_table P (zeros P) (enough_rounds P) ++ drop (cells P) second.entry → marks.exit ≡ marks.entry
         → AfterBreakingRows bs first second marks (refused 16)
     kept_refused b f g m =
-        let a = lent.accepted in
-        let e = number_judged bs first.entry second.entry marks.entry lent true (whole_kept bs a (ap is_broken (whole_outcome bs a) ∙ b)) in
+        let a = accepted in
+        let e = number_judged bs first.entry second.entry marks.entry accepted lent true (whole_kept bs a (ap is_broken (whole_outcome bs a) ∙ b)) in
         let left : (L : List ℕ) → run_table P (zeros P) (enough_rounds P) ++ drop (cells P) L ≡ rows_table bs first.entry second.entry marks.entry L = λ L. ap (λ (l : List ℕ). l ++ drop (cells P) L) (sym (whole_table bs a)) ∙ kept_table bs first.entry second.entry marks.entry e L in
         record {
           outcome_is = refused_outcome bs first.entry second.entry marks.entry 16 e (λ q. omega arith);
@@ -143,9 +144,9 @@ module _ (bs : List ℕ) (first second marks : Moments) where
     -- where it is broken
     rows_marked : is_broken (run_outcome P (zeros P) (enough_rounds P)) ≡ true → (r : ℕ) → RowsLeft P first second marks r → AfterBreakingRows bs first second marks (rows r)
     rows_marked b r left =
-        let a = lent.accepted in
+        let a = accepted in
         let whole = ap is_broken (whole_outcome bs a) ∙ b in
-        let e = number_judged bs first.entry second.entry marks.entry lent false (whole_broken bs a whole) in
+        let e = number_judged bs first.entry second.entry marks.entry accepted lent false (whole_broken bs a whole) in
         record {
           outcome_is = ap rows left.rows_are ∙ rows_outcome_lem bs first.entry second.entry marks.entry e;
           first_is = left.first_is ∙ rows_table_lem bs first.entry second.entry marks.entry e first.entry;
@@ -164,7 +165,7 @@ module _ (bs : List ℕ) (first second marks : Moments) where
         → (r : ℕ) → RowsLeft P (record { entry = F; exit = first.exit }) (record { entry = G; exit = second.exit }) marks r → AfterBreakingRows bs first second marks (rows r)
     run_broken h limit F G o own e ran b r left =
         let w = whole_ran h limit (record { entry = first.entry; exit = F }) (record { entry = second.entry; exit = G }) o own e ran in
-        let sized = run_length P (accepted_well_formed bs lent.accepted) (zeros P) (length-replicate (cells P) 0) (enough_rounds P) in
+        let sized = run_length P (accepted_well_formed bs accepted) (zeros P) (length-replicate (cells P) 0) (enough_rounds P) in
         let tail_first = ap (drop (cells P)) w.first_is ∙ drop_at (run_table P (zeros P) (enough_rounds P)) (drop (cells P) first.entry) (cells P) sized in
         let tail_second = ap (drop (cells P)) w.second_is ∙ drop_at (run_table P (zeros P) (enough_rounds P)) (drop (cells P) second.entry) (cells P) sized in
         rows_marked (ap is_broken (sym w.outcome_is) ∙ b) r (record {

@@ -1,11 +1,10 @@
 -- The lent marks: all set, those of some rows taken away and given back, and in the end those of the procedure.
 use mathlib.Core.Path.{◌≡◌, refl, sym, ap, ap₂, ◌∙◌}
-use mathlib.Core.Bool.{Bool, true, false, cond}
+use mathlib.Core.Bool.{true, false}
 use mathlib.Core.List.{List, ◌++◌}
-use Prim.Native.Nat.{ℕ, ◌+◌, ◌*◌, ◌-◌, ◌≤◌, ◌<◌}
+use Prim.Native.Nat.{ℕ, ◌+◌, ◌≤◌}
 use native.Mathlib.Decide.{ℕ_discrete}
 use native.Mathlib.Omega.{arith}
-use lib.Dec.{eqb}
 use lib.ListN.{length, get_or, take, drop, replicate, length-replicate, take-append-drop}
 use lib.Seq.{take_at, drop_at, get_or-take}
 use borrow.Author.Tests.{eq-eqb, ne_eqb}
@@ -15,9 +14,10 @@ use Rattle.plan.specs.Layout.{plan_of}
 use Rattle.plan.specs.Refusal.{Accepted}
 use Rattle.plan.proofs.Ranges.{accepted_bounded}
 use Rattle.plan_rows.specs.Rows.{marked}
-use Rattle.minimal_rows.specs.declared.Trial.{Trial}
+use Rattle.minimal_rows.specs.declared.trials.Trial.{Trial}
 use Rattle.minimal_rows.specs.Trials.{trial_outcome, trial_table, is_broken, all_rows, tried_to, breaking_marks}
-use Rattle.minimal_rows.specs.Reducing.{MarksLent, RowsTried, Tried, MarksAre, RowsLeft, set_run, reached}
+use Rattle.minimal_rows.specs.Lent.{MarksLent}
+use Rattle.minimal_rows.specs.Reducing.{RowsTried, Tried, MarksAre, RowsLeft, set_run, reached}
 use Rattle.minimal_rows.proofs.ProcedureLaws.{tried_length, tried_ahead}
 use Rattle.minimal_rows.proofs.RunLaws.{run_length, take_run, drop_run, run_back, run_all, run_broken, run_kept}
 use Rattle.minimal_rows.proofs.TrialsMade.{first_kept, second_kept}
@@ -27,12 +27,12 @@ since L₀ L = record { entry = L₀; exit = L }
 
 -- ---- rows tried together
 -- n rows from row i on were tried: their marks were taken away for the trial
-module _ (bs : List ℕ) (h limit i n : ℕ) (first second : Moments) (M : List ℕ) (lent : MarksLent bs h limit first.entry second.entry M) (inside : i + n ≤ (plan_of bs).edges) (front : take (plan_of bs).edges M ≡ tried_to (plan_of bs) i) where
+module _ (bs : List ℕ) (accepted : Accepted bs) (i n : ℕ) (first second : Moments) (M : List ℕ) (lent : MarksLent (plan_of bs) first.entry second.entry M) (inside : i + n ≤ (plan_of bs).edges) (front : take (plan_of bs).edges M ≡ tried_to (plan_of bs) i) where
   abbrev P : Plan
   P = plan_of bs
 
-  pub without_lent : MarksLent bs h limit first.entry second.entry (set_run 0 i n M)
-  without_lent = record { lent = lent.lent; long_marks = rw run_length lent.long_marks }
+  pub without_lent : MarksLent P first.entry second.entry (set_run 0 i n M)
+  without_lent = record { tables = lent.tables; long_marks = rw run_length lent.long_marks }
 
   module _ (t : Trial) (tried : Tried P (set_run 0 i n M) first second t) where
     -- the trial was of the marks without theirs
@@ -46,14 +46,14 @@ module _ (bs : List ℕ) (h limit i n : ℕ) (first second : Moments) (M : List 
     are ns L e k = record {
       marks_are = e;
       marks_length = k;
-      first_tail = first_kept bs (set_run 0 i n M) h limit first second without_lent t tried;
-      second_tail = second_kept bs (set_run 0 i n M) h limit first second without_lent t tried;
+      first_tail = first_kept bs (set_run 0 i n M) accepted first second without_lent t tried;
+      second_tail = second_kept bs (set_run 0 i n M) accepted first second without_lent t tried;
     }
 
     pub rows_left_out : t.broken ≡ true → MarksAre P (tried_to P (i + n)) first second (since M (set_run 0 i n M))
     rows_left_out b =
         are (tried_to P (i + n)) (set_run 0 i n M)
-        (sym (take-append-drop P.edges (set_run 0 i n M)) ∙ ap₂ ◌++◌ (tried_of ∙ sym (run_broken bs lent.lent.accepted i n (sym broken_by ∙ b))) (drop_run 0 i P.edges n M inside))
+        (sym (take-append-drop P.edges (set_run 0 i n M)) ∙ ap₂ ◌++◌ (tried_of ∙ sym (run_broken bs accepted i n (sym broken_by ∙ b))) (drop_run 0 i P.edges n M inside))
         (run_length 0 i n M)
 
     back : set_run 1 i n (set_run 0 i n M) ≡ M
@@ -63,7 +63,7 @@ module _ (bs : List ℕ) (h limit i n : ℕ) (first second : Moments) (M : List 
     rows_stay b = are (tried_to P (reached i n false)) (set_run 1 i n (set_run 0 i n M)) (back ∙ sym (take-append-drop P.edges M) ∙ ap (λ (l : List ℕ). l ++ drop P.edges M) (front ∙ same (ℕ_discrete n 1))) (ap length back)
       where
         same : Dec (n ≡ 1) → tried_to P i ≡ tried_to P (reached i n false)
-        same (yes q) = rw (eq-eqb n 1 q) (sym (run_kept bs lent.lent.accepted i (rw q at (sym broken_by ∙ b))))
+        same (yes q) = rw (eq-eqb n 1 q) (sym (run_kept bs accepted i (rw q at (sym broken_by ∙ b))))
         same (no q) = rw (ne_eqb n 1 q) refl
 
   -- the code's lists: the marks without theirs, and given back
@@ -72,23 +72,6 @@ module _ (bs : List ℕ) (h limit i n : ℕ) (first second : Moments) (M : List 
 
   pub some_stay : (L N : List ℕ) → L ≡ set_run 0 i n M → N ≡ set_run 1 i n L → (t : Trial) → Tried P L first second t → t.broken ≡ false → MarksAre P (tried_to P (reached i n false)) first second (since M N)
   some_stay L N e g t tried b = rw (g ∙ ap (set_run 1 i n) e) (rows_stay t (rw e at tried) b)
-
--- the row reached
-pub reached_bounds : (i n : ℕ) (b : Bool) → 0 < n → (i ≤ reached i n b) × (reached i n b ≤ i + n)
-reached_bounds i n true h = (omega arith, omega arith)
-reached_bounds i n false h = go (eqb n 1)
-  where
-    go : (t : Bool) → (i ≤ cond t (i + 1) i) × (cond t (i + 1) i ≤ i + n)
-    go true = (omega arith, omega arith)
-    go false = (omega arith, omega arith)
-
--- what falls: rows left to try, and where they stay the rows to try at once
-pub fewer_left : (n i j c d : ℕ) → i < n → i ≤ j → j ≤ n → d ≤ 128 → (j ≡ i → d < c) → (n - j) * 256 + d < (n - i) * 256 + c
-fewer_left n i j c d h k l m f = go (ℕ_discrete j i)
-  where
-    go : Dec (j ≡ i) → (n - j) * 256 + d < (n - i) * 256 + c
-    go (yes q) = omega (arith, f q)
-    go (no q) = omega arith
 
 -- ---- all rows
 -- before the first
@@ -101,69 +84,44 @@ tried_none P F G M all = record {
   second_tail = record { tail = refl; as_long = refl };
 }
 
-module _ (bs : List ℕ) (h limit : ℕ) (F₀ G₀ M₀ : List ℕ) (lent : MarksLent bs h limit F₀ G₀ M₀) (ms F G M : List ℕ) (are : MarksAre (plan_of bs) ms (since F₀ F) (since G₀ G) (since M₀ M)) where
+module _ (P : Plan) (F₀ G₀ M₀ : List ℕ) (ms F G M : List ℕ) (are : MarksAre P ms (since F₀ F) (since G₀ G) (since M₀ M)) where
   -- what is lent stays lent
-  pub still_lent : MarksLent bs h limit F G M
-  still_lent = record {
-    lent = record {
-      accepted = lent.lent.accepted;
-      horizon_is = lent.lent.horizon_is;
-      limit_is = lent.lent.limit_is;
-      long_first = rw are.first_tail.as_long lent.lent.long_first;
-      long_second = rw are.second_tail.as_long lent.lent.long_second;
+  pub still_lent : MarksLent P F₀ G₀ M₀ → MarksLent P F G M
+  still_lent lent = record {
+    tables = record {
+      long_first = rw are.first_tail.as_long lent.tables.long_first;
+      long_second = rw are.second_tail.as_long lent.tables.long_second;
     };
     long_marks = rw are.marks_length lent.long_marks;
   }
 
-  module _ (sized : length ms ≡ (plan_of bs).edges) where
-    pub front_is : take (plan_of bs).edges M ≡ ms
-    front_is = ap (take (plan_of bs).edges) are.marks_are ∙ take_at ms (drop (plan_of bs).edges M₀) (plan_of bs).edges sized
-
-    back_is : drop (plan_of bs).edges M ≡ drop (plan_of bs).edges M₀
-    back_is = ap (drop (plan_of bs).edges) are.marks_are ∙ drop_at ms (drop (plan_of bs).edges M₀) (plan_of bs).edges sized
-
-    -- one step after the other
-    pub then_are : (ns F' G' M' : List ℕ) → MarksAre (plan_of bs) ns (since F F') (since G G') (since M M') → MarksAre (plan_of bs) ns (since F₀ F') (since G₀ G') (since M₀ M')
-    then_are ns F' G' M' more = record {
-      marks_are = more.marks_are ∙ ap (λ (l : List ℕ). ns ++ l) back_is;
-      marks_length = more.marks_length ∙ are.marks_length;
-      first_tail = record { tail = more.first_tail.tail ∙ are.first_tail.tail; as_long = more.first_tail.as_long ∙ are.first_tail.as_long };
-      second_tail = record { tail = more.second_tail.tail ∙ are.second_tail.tail; as_long = more.second_tail.as_long ∙ are.second_tail.as_long };
-    }
-
--- the rows up to j have been tried, and then those up to the row that was reached
-pub some_tried : (bs : List ℕ) (h limit : ℕ) (F₀ G₀ M₀ : List ℕ) → MarksLent bs h limit F₀ G₀ M₀ → (i j k : ℕ) (F G M F' G' M' : List ℕ) → MarksAre (plan_of bs) (tried_to (plan_of bs) i) (since F₀ F) (since G₀ G) (since M₀ M) → k ≡ j
-    → MarksAre (plan_of bs) (tried_to (plan_of bs) j) (since F F') (since G G') (since M M') → MarksAre (plan_of bs) (tried_to (plan_of bs) k) (since F₀ F') (since G₀ G') (since M₀ M')
-some_tried bs h limit F₀ G₀ M₀ lent i j k F G M F' G' M' are e more = rw e (then_are bs h limit F₀ G₀ M₀ lent (tried_to (plan_of bs) i) F G M are (tried_length (plan_of bs) i) (tried_to (plan_of bs) j) F' G' M' more)
+  module _ (sized : length ms ≡ P.edges) where
+    pub front_is : take P.edges M ≡ ms
+    front_is = ap (take P.edges) are.marks_are ∙ take_at ms (drop P.edges M₀) P.edges sized
 
 -- the code's number of edges is small
 pub edges_few : (bs : List ℕ) → Accepted bs → (n : ℕ) → n ≡ (plan_of bs).edges → n ≤ 128
 edges_few bs accepted n e = omega (arith, (accepted_bounded bs accepted).edges_in)
 
--- after the last
-pub all_tried : (P : Plan) (i n : ℕ) (first second marks : Moments) → i ≡ n → n ≡ P.edges → MarksAre P (tried_to P i) first second marks → MarksAre P (breaking_marks P) first second marks
-all_tried P i n first second marks e k are = rw (e ∙ k) at are
-
 -- ---- the whole
 -- all marks were set; the code's number n is the edges
-module _ (bs : List ℕ) (h limit : ℕ) (F G M₀ : List ℕ) (lent : MarksLent bs h limit F G M₀) (n : ℕ) (M₁ : List ℕ) (en : n ≡ (plan_of bs).edges) (set_all : M₁ ≡ set_run 1 0 n M₀) (as_long : length M₁ ≡ length M₀) where
-  over : M₁ ≡ all_rows (plan_of bs) ++ drop (plan_of bs).edges M₀
+module _ (P : Plan) (F G M₀ : List ℕ) (lent : MarksLent P F G M₀) (n : ℕ) (M₁ : List ℕ) (en : n ≡ P.edges) (set_all : M₁ ≡ set_run 1 0 n M₀) (as_long : length M₁ ≡ length M₀) where
+  over : M₁ ≡ all_rows P ++ drop P.edges M₀
   over = set_all ∙ run_all n M₀ (omega (arith, lent.long_marks)) ∙ ap (λ (k : ℕ). replicate k 1 ++ drop k M₀) en
 
-  pub all_lent : MarksLent bs h limit F G M₁
-  all_lent = record { lent = lent.lent; long_marks = rw as_long lent.long_marks }
+  pub all_lent : MarksLent P F G M₁
+  all_lent = record { tables = lent.tables; long_marks = rw as_long lent.long_marks }
 
-  pub all_set : take (plan_of bs).edges M₁ ≡ all_rows (plan_of bs)
-  all_set = ap (take (plan_of bs).edges) over ∙ take_at (all_rows (plan_of bs)) (drop (plan_of bs).edges M₀) (plan_of bs).edges (length-replicate (plan_of bs).edges 1)
+  pub all_set : take P.edges M₁ ≡ all_rows P
+  all_set = ap (take P.edges) over ∙ take_at (all_rows P) (drop P.edges M₀) P.edges (length-replicate P.edges 1)
 
-  unset : drop (plan_of bs).edges M₁ ≡ drop (plan_of bs).edges M₀
-  unset = ap (drop (plan_of bs).edges) over ∙ drop_at (all_rows (plan_of bs)) (drop (plan_of bs).edges M₀) (plan_of bs).edges (length-replicate (plan_of bs).edges 1)
+  unset : drop P.edges M₁ ≡ drop P.edges M₀
+  unset = ap (drop P.edges) over ∙ drop_at (all_rows P) (drop P.edges M₀) P.edges (length-replicate P.edges 1)
 
   -- all rows were tried, and then those that remain
-  pub rows_left : (F₁ G₁ M₂ F₂ G₂ : List ℕ) (t : Trial) → MarksAre (plan_of bs) (breaking_marks (plan_of bs)) (since F F₁) (since G G₁) (since M₁ M₂) → Tried (plan_of bs) M₂ (since F₁ F₂) (since G₁ G₂) t → RowsLeft (plan_of bs) (since F F₂) (since G G₂) (since M₀ M₂) t.rows
+  pub rows_left : (F₁ G₁ M₂ F₂ G₂ : List ℕ) (t : Trial) → MarksAre P (breaking_marks P) (since F F₁) (since G G₁) (since M₁ M₂) → Tried P M₂ (since F₁ F₂) (since G₁ G₂) t → RowsLeft P (since F F₂) (since G G₂) (since M₀ M₂) t.rows
   rows_left F₁ G₁ M₂ F₂ G₂ t are last =
-      let P = plan_of bs in
-      let front : take P.edges M₂ ≡ breaking_marks P = front_is bs h limit F G M₁ all_lent (breaking_marks P) F₁ G₁ M₂ are (tried_length P P.edges) in
+      let front : take P.edges M₂ ≡ breaking_marks P = front_is P F G M₁ (breaking_marks P) F₁ G₁ M₂ are (tried_length P P.edges) in
       let r : RowsTried P (marked (breaking_marks P)) (since F₁ F₂) (since G₁ G₂) t.broken = rw front at last.tried in
       record {
         rows_are = last.rows_are ∙ ap (λ (l : List ℕ). length (marked l)) front;

@@ -1,13 +1,15 @@
 -- Rows tried together: where the rest is still broken without all of them, each of them would be left out one by one.
 use mathlib.Core.Path.{◌≡◌, refl, sym, ap, ◌∙◌}
 use mathlib.Core.Bool.{true, false}
-use mathlib.Core.List.{List, ◌∷◌, ◌++◌}
+use mathlib.Core.List.{List, [], ◌∷◌, ◌++◌}
 use Prim.Native.Nat.{ℕ, zero, suc, ◌+◌, ◌≤◌, ◌<◌}
 use native.Mathlib.Nat.{add-zero, add-suc, zero-add}
 use native.Mathlib.Numerals.{add-one}
 use native.Mathlib.Omega.{arith}
 use lib.ListN.{length, get_or, take, drop, set, replicate, length-set, length-replicate}
 use lib.Seq.{drop-cons, set_at, take-set-lt, drop-set-lt, set-set, set_comm, set-get_or}
+use Rattle.std.proofs.lemmas.List.Edits.{fill_from_more}
+use lib.Seq.{paste, paste-zero}
 use Rattle.plan.specs.Plan.{Plan}
 use Rattle.plan.specs.Layout.{plan_of}
 use Rattle.plan.specs.Refusal.{Accepted}
@@ -17,17 +19,11 @@ use Rattle.minimal_rows.proofs.TrialLaws.{more_broken}
 use Rattle.minimal_rows.proofs.ProcedureLaws.{without_less, tried_broken, tried_kept, tried_length}
 
 module _ (m i : ℕ) where
-  -- the marks one by one, in a loop
-  pub run_none : (ms : List ℕ) → ms ≡ set_run m i 0 ms
+  -- the marks written at once
+  pub run_pasted : (n : ℕ) (ms : List ℕ) → i + n ≤ length ms → set_run m i n ms ≡ paste ms i (replicate n m) n
   unfolding set_run
-  run_none ms = refl
-
-  pub run_more : (k : ℕ) (L ms : List ℕ) → L ≡ set_run m i k ms → set L (i + k) m ≡ set_run m i (k + 1) ms
-  unfolding set_run
-  run_more k L ms e = rw (add-one, e) refl
-
-  pub run_done : (k n : ℕ) (L ms : List ℕ) → k ≡ n → L ≡ set_run m i k ms → L ≡ set_run m i n ms
-  run_done k n L ms q e = e ∙ ap (λ (x : ℕ). set_run m i x ms) q
+  run_pasted zero ms h = paste-zero ms i []
+  run_pasted (suc n) ms h = ap (λ (l : List ℕ). set l (i + n) m) (run_pasted n ms (omega arith)) ∙ rw add-one at (fill_from_more ms i n m (omega arith))
 
   pub run_length : (n : ℕ) (ms : List ℕ) → length (set_run m i n ms) ≡ length ms
   unfolding set_run

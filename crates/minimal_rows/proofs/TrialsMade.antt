@@ -25,12 +25,13 @@ use Rattle.rounds_making.specs.Outcomes.{Outcome, run_outcome, run_table}
 use Rattle.rounds.specs.Meaning.{enough_rounds}
 use Rattle.rounds.specs.FromZeros.{ZerosLent, RanFromZeros}
 use Rattle.rounds.proofs.SameRuns.{same_outcome, same_run}
-use Rattle.minimal_rows.specs.declared.Trial.{Trial}
+use Rattle.minimal_rows.specs.declared.trials.Trial.{Trial}
 use Rattle.minimal_rows.specs.Trials.{trial_table, is_broken}
-use Rattle.minimal_rows.specs.Reducing.{TrialLent, MarksLent, RowsTried, Tried, TailKept}
+use Rattle.minimal_rows.specs.Lent.{Trying, TablesLent, MarksLent}
+use Rattle.minimal_rows.specs.Reducing.{RowsTried, Tried, TailKept}
 use Rattle.minimal_rows.proofs.TrialLaws.{trial_length}
 
-module _ (bs rows : List ℕ) (h limit : ℕ) (F G : List ℕ) (lent : TrialLent bs h limit F G) (within : RowsIn (plan_of bs) rows) where
+module _ (bs rows : List ℕ) (h limit : ℕ) (F G : List ℕ) (trying : Trying bs h limit) (lent : TablesLent (plan_of bs) F G) (within : RowsIn (plan_of bs) rows) where
   abbrev P : Plan
   P = plan_of bs
 
@@ -42,13 +43,13 @@ module _ (bs rows : List ℕ) (h limit : ℕ) (F G : List ℕ) (lent : TrialLent
   same_cells = fewer_cells (rows_fewer bs rows)
 
   horizon_far : (plan_of (rows_bytes bs rows)).horizon ≤ P.horizon
-  horizon_far = rows_horizon bs rows lent.accepted within
+  horizon_far = rows_horizon bs rows trying.accepted within
 
   pub rows_lent : ZerosLent (rows_bytes bs rows) h F G
   rows_lent = record {
-    accepted = rows_accepted bs rows lent.accepted within;
-    horizon_far = rw lent.horizon_is horizon_far;
-    horizon_near = rw lent.horizon_is (accepted_bounded bs lent.accepted).horizon_in;
+    accepted = rows_accepted bs rows trying.accepted within;
+    horizon_far = rw trying.horizon_is horizon_far;
+    horizon_near = rw trying.horizon_is (accepted_bounded bs trying.accepted).horizon_in;
     long_first = rw same_cells lent.long_first;
     long_second = rw same_cells lent.long_second;
   }
@@ -70,10 +71,10 @@ module _ (bs rows : List ℕ) (h limit : ℕ) (F G : List ℕ) (lent : TrialLent
         g = fewer_rows bs rows
 
         wq : WellFormed Q
-        wq = with_well_formed (rows_bytes bs rows) (rows_accepted bs rows lent.accepted within) P.horizon horizon_far
+        wq = with_well_formed (rows_bytes bs rows) (rows_accepted bs rows trying.accepted within) P.horizon horizon_far
 
         wp : WellFormed (with_rows P rows)
-        wp = some_well_formed (accepted_well_formed bs lent.accepted) rows within
+        wp = some_well_formed (accepted_well_formed bs trying.accepted) rows within
 
         sized : length (zeros P) ≡ cells P
         sized = length-replicate (cells P) 0
@@ -82,12 +83,12 @@ module _ (bs rows : List ℕ) (h limit : ℕ) (F G : List ℕ) (lent : TrialLent
         left L = ap (λ (n : ℕ). run_table Q (replicate n 0) (enough_rounds P) ++ drop n L) same_cells ∙ ap (λ (l : List ℕ). l ++ drop (cells P) L) (same_run f g wq wp (zeros P) sized (enough_rounds P))
 
     rows_tried : RanFromZeros (plan_with (rows_bytes bs rows) h) limit first second o → RowsTried P rows first second (is_broken o)
-    rows_tried r = same_tried (rw (lent.horizon_is, lent.limit_is) at r)
+    rows_tried r = same_tried (rw (trying.horizon_is, trying.limit_is) at r)
 
   -- a buffer is long enough
   pub bytes_fit : length_for (with_rows P rows) ≤ 800
   unfolding length_for
-  bytes_fit = let b = accepted_bounded bs lent.accepted in omega (arith, within.few, b.edges_in, b.links_in, b.propositions_in)
+  bytes_fit = let b = accepted_bounded bs trying.accepted in omega (arith, within.few, b.edges_in, b.links_in, b.propositions_in)
 
   -- the bytes were written into a buffer; the code's number e is how many
   module _ (B B₀ : List ℕ) (e : ℕ) (count : e ≡ length (rows_bytes bs rows)) (written : B ≡ rows_bytes bs rows ++ drop e B₀) where
@@ -110,16 +111,13 @@ module _ (bs marks : List ℕ) (accepted : Accepted bs) where
     pub listed_in : RowsIn (plan_of bs) (take e N)
     listed_in = rw rows_are (marked_rows_in (plan_of bs) (take (plan_of bs).edges marks) (length-take-le (plan_of bs).edges marks long))
 
-    pub marks_tried : (first second : Moments) (b : Bool) → RowsTried (plan_of bs) (take e N) first second b → Tried (plan_of bs) marks first second (record { broken = b; rows = e })
-    marks_tried first second b r = record { tried = rw rows_are at r; rows_are = count ∙ ap (λ (m : ℕ). length (marked (take m marks))) en }
-
 -- ---- what a trial leaves
-module _ (bs marks : List ℕ) (h limit : ℕ) (first second : Moments) (lent : MarksLent bs h limit first.entry second.entry marks) where
+module _ (bs marks : List ℕ) (accepted : Accepted bs) (first second : Moments) (lent : MarksLent (plan_of bs) first.entry second.entry marks) where
   sized : length (take (plan_of bs).edges marks) ≡ (plan_of bs).edges
   sized = length-take-le (plan_of bs).edges marks lent.long_marks
 
   whole : length (trial_table (plan_of bs) (take (plan_of bs).edges marks)) ≡ cells (plan_of bs)
-  whole = trial_length bs lent.lent.accepted (take (plan_of bs).edges marks) sized
+  whole = trial_length bs accepted (take (plan_of bs).edges marks) sized
 
   module _ (t : Trial) (tried : Tried (plan_of bs) marks first second t) where
     pub first_kept : TailKept (plan_of bs) first

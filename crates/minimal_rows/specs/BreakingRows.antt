@@ -1,12 +1,12 @@
 -- What the call answers, and what the lent tables and marks then hold (21).
-use Rattle.std.specs.Prelude.{Bool, cond, not, ◌||◌, List, ◌++◌, ℕ, ltb, eqb, length, drop}
+use Rattle.std.specs.Prelude.{Bool, cond, not, ◌||◌, List, ◌++◌, ℕ, ltb, eqb, length, drop, Result, Ok, Err}
 use Rattle.plan.specs.Plan.{Plan, cells}
 use Rattle.plan.specs.Layout.{plan_of}
 use Rattle.plan.specs.Refusal.{refusal}
+use Rattle.plan.specs.Numbers.{number_of}
+use Rattle.plan.specs.declared.refusal.Refusal.{Refusal}
 use Rattle.plan_rows.specs.Rows.{marked}
 use Rattle.rounds.specs.CheckOutcomes.{is_too_short}
-use Rattle.minimal_rows.specs.declared.Reduced.{Reduced}
-use Rattle.minimal_rows.specs.declared.Reduced.TheVariants.{Rows, Refused}
 use Rattle.minimal_rows.specs.Trials.{trial_outcome, trial_table, is_kept, all_rows, breaking_marks}
 
 -- 21.5: the number of rows that remain, or the number of a refusal
@@ -15,9 +15,9 @@ pub data RowsOutcome : Type 0 where
   refused : ℕ → RowsOutcome
 
 -- 21.5: the outcome that the code's answer stands for
-abbrev pub outcome_of : Reduced → RowsOutcome
-outcome_of (Rows n) = rows n
-outcome_of (Refused n) = refused n
+abbrev pub outcome_of : Result ℕ Refusal → RowsOutcome
+outcome_of (Ok n) = rows n
+outcome_of (Err refusal) = refused (number_of refusal)
 
 -- 21.5: a lent table is shorter than the cells, or the marks are fewer than the edges
 abbrev pub rows_too_short : Plan → List ℕ → List ℕ → List ℕ → Bool

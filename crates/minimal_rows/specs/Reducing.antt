@@ -1,29 +1,15 @@
--- For inner contracts only: what the functions that make trials are lent, and what they leave there. Nothing here is to be believed.
-use Rattle.std.specs.Prelude.{◌≡◌, Bool, true, false, cond, List, ◌++◌, ℕ, zero, suc, ◌+◌, ◌≤◌, ◌<◌, eqb, length, take, drop, set}
+-- For inner contracts only: what the functions that make trials leave in what they are lent. Nothing here is to be believed.
+use Rattle.std.specs.Prelude.{◌≡◌, Bool, true, false, cond, List, ◌++◌, ℕ, zero, suc, ◌+◌, eqb, length, take, drop, set}
 use Rattle.plan.specs.Moments.{Moments}
 use Rattle.plan.specs.Plan.{Plan, cells}
 use Rattle.plan.specs.Layout.{plan_of}
-use Rattle.plan.specs.Refusal.{Accepted}
 use Rattle.plan_rows.specs.Rows.{with_rows, marked}
 use Rattle.rounds_making.specs.Rounds.{zeros}
 use Rattle.rounds_making.specs.Outcomes.{run_outcome, run_table}
 use Rattle.rounds.specs.Meaning.{enough_rounds}
-use Rattle.minimal_rows.specs.declared.Trial.{Trial}
-use Rattle.minimal_rows.specs.declared.Progress.{Progress}
+use Rattle.minimal_rows.specs.declared.trials.Trial.{Trial}
+use Rattle.minimal_rows.specs.declared.trials.Trials.{Trials}
 use Rattle.minimal_rows.specs.Trials.{trial_table, is_broken, breaking_marks}
-
--- an accepted plan, its horizon, the number of rounds that is enough for it, and two tables that have all cells
-pub record TrialLent (plan : List ℕ) (horizon limit : ℕ) (first second : List ℕ) : Type 0 where
-  pub accepted : Accepted plan
-  pub horizon_is : horizon ≡ (plan_of plan).horizon
-  pub limit_is : limit ≡ enough_rounds (plan_of plan)
-  pub long_first : cells (plan_of plan) ≤ length first
-  pub long_second : cells (plan_of plan) ≤ length second
-
--- and a mark for each edge
-pub record MarksLent (plan : List ℕ) (horizon limit : ℕ) (first second marks : List ℕ) : Type 0 where
-  pub lent : TrialLent plan horizon limit first second
-  pub long_marks : (plan_of plan).edges ≤ length marks
 
 -- a trial of a list of rows was made, and left its table in the cells of both tables
 pub record RowsTried (P : Plan) (rows : List ℕ) (first second : Moments) (b : Bool) : Type 0 where
@@ -50,12 +36,9 @@ pub record MarksAre (P : Plan) (ms : List ℕ) (first second marks : Moments) : 
   pub first_tail : TailKept P first
   pub second_tail : TailKept P second
 
--- what the call is lent once all refusals but 16 are out of the question
-pub record ReduceLent (plan first second marks : List ℕ) : Type 0 where
-  pub accepted : Accepted plan
-  pub long_first : cells (plan_of plan) ≤ length first
-  pub long_second : cells (plan_of plan) ≤ length second
-  pub long_marks : (plan_of plan).edges ≤ length marks
+-- the plan whose rows are tried
+abbrev pub plan_in : Trials → Plan
+plan_in t = plan_of t.plan.now
 
 -- the rows that break the plan are marked, r of them, and both tables hold the table of their trial
 pub record RowsLeft (P : Plan) (first second marks : Moments) (r : ℕ) : Type 0 where
@@ -77,10 +60,3 @@ set_run m i (suc n) ms = set (set_run m i n ms) (i + n) m
 abbrev pub reached : ℕ → ℕ → Bool → ℕ
 reached i n true = i + n
 reached i n false = cond (eqb n 1) (i + 1) i
-
--- what bounds the numbers of the loop over the rows
-pub record Within (at : Progress) : Type 0 where
-  pub start_before : at.start ≤ at.next
-  pub next_few : at.next ≤ 128
-  pub some_rows : 0 < at.count
-  pub count_few : at.count ≤ 128

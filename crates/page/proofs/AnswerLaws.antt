@@ -1,20 +1,24 @@
 -- What a page answers, test after test, and its output.
 use mathlib.Core.Path.{◌≡◌, refl, sym, ap, ◌∙◌}
-use mathlib.Core.Bool.{Bool, true, false, true≢false}
+use mathlib.Core.Bool.{Bool, true, false, not, true≢false}
 use mathlib.Core.List.{List, ◌++◌}
 use Prim.Native.Nat.{ℕ, zero, suc, ◌*◌, ◌≤◌, ◌<◌}
 use native.Mathlib.Nat.{zero-add}
 use native.Mathlib.Omega.{arith}
+use lib.Dec.{eqb}
 use lib.ListN.{length, get_or, drop}
 use lib.Seq.{sets-eq}
-use borrow.Author.Tests.{lt-ltb, le-ltb, le-leb, eq-eqb, ne_eqb}
+use borrow.Author.Rules.{rules}
+use borrow.Author.Tests.{lt-ltb, le-ltb, le-leb, eq-eqb}
 use Rattle.plan.specs.Counting.{count}
 use Rattle.plan.specs.Plan.{cells}
 use Rattle.plan.specs.Layout.{plan_of}
+use Rattle.plan.specs.Numbers.{number_of}
 use Rattle.plan.specs.Refusal.{every, refusal, Accepted}
+use Rattle.plan.specs.declared.refusal.Refusal.{Refusal}
 use Rattle.plan.proofs.CountLaws.{count_few}
 use Rattle.plan.proofs.Ranges.{accepted_bounded}
-use Rattle.text.specs.Buffer.{TextPut}
+use Rattle.text.proofs.Puts.{Written}
 use Rattle.page.specs.Page.{above, most_printed, wait_fits, page_of, PageOutcome, printed, refused, page_outcome, page_output}
 use Rattle.page.specs.AfterPage.{AfterPage}
 use Rattle.page.specs.Lent.{Printable}
@@ -23,6 +27,10 @@ use Rattle.page.proofs.PageLaws.{fixed_columns}
 abbrev refuses : PageOutcome → Bool
 refuses (printed n) = false
 refuses (refused n) = true
+
+-- no refusal has the number 0
+some_number : (r : Refusal) → not (eqb (number_of r) 0) ≡ true
+some_number r = search rules
 
 module _ (bs T out : List ℕ) where
   abbrev Answered : PageOutcome → List ℕ → Type 0
@@ -33,9 +41,9 @@ module _ (bs T out : List ℕ) where
   unfolding page_output
   answered_refused n e = record { outcome_is = sym e; output_is = rw e refl; fixed = λ m q. absurd (true≢false (ap refuses q)) }
 
-  pub by_plan : (m : ℕ) → m ≡ refusal bs → (m ≡ 0 → ⊥) → Answered (refused m) out
+  pub by_plan : (r : Refusal) → number_of r ≡ refusal bs → Answered (refused (number_of r)) out
   unfolding page_outcome
-  by_plan m e h = answered_refused m (rw (← e, ne_eqb m 0 h) refl)
+  by_plan r e = answered_refused (number_of r) (rw (← e, some_number r) refl)
 
   module _ (accepted : Accepted bs) where
     pub by_table : length T < cells (plan_of bs) → Answered (refused 6) out
@@ -67,10 +75,10 @@ module _ (bs T out : List ℕ) where
           unfolding page_output
           output_printed = rw outcome_printed refl
 
-          pub answered_printed : {r : ℕ} {after : List ℕ} → TextPut (page_of (plan_of bs) T) 0 out r after → Answered (printed r) after
+          pub answered_printed : {r : ℕ} {after : List ℕ} → Written (page_of (plan_of bs) T) out r after → Answered (printed r) after
           answered_printed p = record {
-            outcome_is = ap printed (p.next_is ∙ zero-add _) ∙ sym outcome_printed;
-            output_is = p.after_is ∙ sets-eq (page_of (plan_of bs) T) out 0 (omega (arith, room, page_long)) ∙ ap (λ (k : ℕ). page_of (plan_of bs) T ++ drop k out) (zero-add (length (page_of (plan_of bs) T))) ∙ sym output_printed;
+            outcome_is = ap printed p.length_is ∙ sym outcome_printed;
+            output_is = p.out_is ∙ sets-eq (page_of (plan_of bs) T) out 0 (omega (arith, room, page_long)) ∙ ap (λ (k : ℕ). page_of (plan_of bs) T ++ drop k out) (zero-add (length (page_of (plan_of bs) T))) ∙ sym output_printed;
             fixed = λ m q. fixed_columns bs T printable;
           }
 

@@ -13,19 +13,20 @@ use Rattle.rules.specs.declared.Line.{Line}
 use Rattle.rules.specs.Lines.{line_at}
 use Rattle.rules.proofs.Cells.{at_range}
 use Rattle.text.specs.Decimal.{decimal}
-use Rattle.text.specs.Buffer.{TextFits, TextPut}
+use Rattle.text.specs.declared.buffer.TextBuffer.{TextBuffer}
+use Rattle.text.specs.Buffer.{HasRoom, Puts}
 use Rattle.text.proofs.Decimals.{decimal_length}
-use Rattle.text.proofs.Puts.{put_append, room_first, room_second}
+use Rattle.text.proofs.Puts.{puts_append, room_first, room_second}
 use Rattle.page.specs.Columns.{right_aligned, middle_columns, columns}
 use Rattle.page.specs.Page.{most_printed, wait_fits}
 use Rattle.page.specs.Lent.{LineFits, Printable}
 
 -- ---- blanks
-pub room_blank : {at next : ℕ} {out after : List ℕ} (n i : ℕ) → i < n → TextFits at (replicate n 32) → TextPut (replicate i 32) at out next after → TextFits next (32 ∷ [])
-room_blank n i h r p = record { room = omega (arith, r.room, p.next_is, length-replicate {A = ℕ} n 32, length-replicate {A = ℕ} i 32) }
+pub room_blank : {a b : TextBuffer} (n i : ℕ) → i < n → HasRoom (replicate n 32) a → Puts (replicate i 32) a b → HasRoom (32 ∷ []) b
+room_blank n i h r p = record { room = omega (arith, r.room, p.length_is, length-replicate {A = ℕ} n 32, length-replicate {A = ℕ} i 32) }
 
-pub put_blank : {at next end : ℕ} {out middle after : List ℕ} (i : ℕ) → TextPut (replicate i 32) at out next middle → TextPut (32 ∷ []) next middle end after → TextPut (replicate (i + 1) 32) at out end after
-put_blank i p q = rw (← replicate-append-replicate {A = ℕ} i 1 32) (put_append p q)
+pub put_blank : {a b c : TextBuffer} (i : ℕ) → Puts (replicate i 32) a b → Puts (32 ∷ []) b c → Puts (replicate (i + 1) 32) a c
+put_blank i p q = rw (← replicate-append-replicate {A = ℕ} i 1 32) (puts_append p q)
 
 -- ---- a number right-aligned in w columns
 aligned_length : (w n : ℕ) → length (decimal n) ≤ w → length (right_aligned w n) ≡ w
@@ -34,17 +35,17 @@ aligned_length w n h = rw (length-append, length-replicate) (omega (arith, h))
 
 -- d is the number of its digits
 module _ (w n d : ℕ) (e : d ≡ length (decimal n)) where
-  pub room_blanks : {at : ℕ} → TextFits at (right_aligned w n) → TextFits at (replicate (w - d) 32)
+  pub room_blanks : {a : TextBuffer} → HasRoom (right_aligned w n) a → HasRoom (replicate (w - d) 32) a
   unfolding right_aligned
   room_blanks r = rw e (room_first _ _ r)
 
-  pub room_number : {at next : ℕ} {out after : List ℕ} → TextFits at (right_aligned w n) → TextPut (replicate (w - d) 32) at out next after → TextFits next (decimal n)
+  pub room_number : {a b : TextBuffer} → HasRoom (right_aligned w n) a → Puts (replicate (w - d) 32) a b → HasRoom (decimal n) b
   unfolding right_aligned
   room_number r p = room_second _ _ r (rw e at p)
 
-  pub put_aligned : {at next end : ℕ} {out middle after : List ℕ} → TextPut (replicate (w - d) 32) at out next middle → TextPut (decimal n) next middle end after → TextPut (right_aligned w n) at out end after
+  pub put_aligned : {a b c : TextBuffer} → Puts (replicate (w - d) 32) a b → Puts (decimal n) b c → Puts (right_aligned w n) a c
   unfolding right_aligned
-  put_aligned p q = put_append (rw e at p) q
+  put_aligned p q = puts_append (rw e at p) q
 
 -- ---- a line
 pub point_digits : (l : Line) → LineFits l → length (decimal l.point) ≤ 2

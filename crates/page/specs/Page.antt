@@ -1,12 +1,12 @@
 -- The page of a plan and a table, what the call answers, and what the output then holds (18).
-use Rattle.std.specs.Prelude.{Bool, cond, not, List, [], ◌++◌, ℕ, ltb, leb, eqb, length, get_or, drop}
+use Rattle.std.specs.Prelude.{Bool, cond, not, List, [], ◌++◌, ℕ, Result, Ok, Err, ltb, leb, eqb, length, get_or, drop}
 use Rattle.plan.specs.Plan.{Plan, cells}
 use Rattle.plan.specs.Layout.{plan_of}
+use Rattle.plan.specs.Numbers.{number_of}
 use Rattle.plan.specs.Refusal.{every, refusal}
+use Rattle.plan.specs.declared.refusal.Refusal.{Refusal}
 use Rattle.rules.specs.Lines.{line_at}
 use Rattle.text.specs.Joined.{joined}
-use Rattle.page.specs.declared.Paged.{Paged}
-use Rattle.page.specs.declared.Paged.TheVariants.{Printed, Refused}
 use Rattle.page.specs.Columns.{columns}
 
 -- 18.1: cell c is above 0
@@ -35,9 +35,9 @@ pub data PageOutcome : Type 0 where
   refused : ℕ → PageOutcome
 
 -- 18.7: the outcome that the code's answer stands for
-abbrev pub outcome_of : Paged → PageOutcome
-outcome_of (Printed n) = printed n
-outcome_of (Refused n) = refused n
+abbrev pub outcome_of : Result ℕ Refusal → PageOutcome
+outcome_of (Ok n) = printed n
+outcome_of (Err refusal) = refused (number_of refusal)
 
 -- 18.7: of the plan, then 6, then 12, then 13
 unfoldable pub page_outcome : List ℕ → List ℕ → List ℕ → PageOutcome

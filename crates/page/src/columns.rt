@@ -5,31 +5,31 @@ ghost use Rattle.page.specs.Columns.{link_column, sign, proposition_column, link
 use plan::digit;
 use rules_apply::contains;
 
+#[tactic(auto, unfolding(crate::specs::Columns::link_column))]
 fn link_column(set: usize, i: usize) -> u8
     requires { i < 4 }
     ensures { result ≡ link_column set i }
 {
     if contains(set, i) {
-        return b'0' + i as u8;
+        b'0' + i as u8
+    } else {
+        b'.'
     }
-    b'.'
 }
 
+#[tactic(auto, unfolding(crate::specs::Columns::sign))]
 fn sign_of(digit: usize) -> u8
     ensures { result ≡ sign digit }
 {
-    if digit == 1 {
-        return b'+';
+    match digit {
+        1 => b'+',
+        2 => b'-',
+        3 => b'?',
+        _ => b'.',
     }
-    if digit == 2 {
-        return b'-';
-    }
-    if digit == 3 {
-        return b'?';
-    }
-    b'.'
 }
 
+#[tactic(auto, unfolding(crate::specs::Columns::proposition_column))]
 fn proposition_column(label: usize, j: usize) -> u8
     requires { j < 4 }
     ensures { result ≡ proposition_column label j }
@@ -45,6 +45,7 @@ fn count_column(set: usize) -> u8
 }
 
 // Columns 3 to 15.
+#[tactic(auto, unfolding(crate::specs::Columns::middle_columns))]
 pub fn middle_columns(set: usize, label: usize) -> [u8; 13]
     requires { set < 16 }
     ensures { result ≡ middle_columns set label }

@@ -6,10 +6,3 @@ mod lines;
 mod printing;
 
 pub use printing::page;
-
-// What a page answers; specs/Page says what each stands for.
-#[derive(Clone, Copy)]
-pub enum Paged {
-    Printed(usize),
-    Refused(u32),
-}

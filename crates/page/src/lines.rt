@@ -3,7 +3,7 @@ ghost use Rattle.std.specs.Prelude.{◌≤◌, ◌<◌, length, replicate};
 ghost use Rattle.plan.specs.Plan.{cells as cells_of};
 ghost use Rattle.plan.specs.Layout.{plan_of};
 ghost use Rattle.text.specs.Decimal.{decimal};
-ghost use Rattle.text.specs.Buffer.{TextFits, TextPut};
+ghost use Rattle.text.specs.Buffer.{HasRoom, Puts};
 ghost use Rattle.page.specs.Columns.{right_aligned, columns as columns_of};
 ghost use Rattle.page.specs.Page.{cell_text, page_of};
 ghost use Rattle.page.specs.Lent.{LineFits, Printable};
@@ -12,57 +12,51 @@ use crate::columns::middle_columns;
 use plan::cells;
 use rules::Line;
 use rules_ground::{frame_of, line_at};
-use text::{decimal_length, put_byte, put_bytes, put_decimal};
+use text::{TextBuffer, decimal_length};
 
-fn put_blanks(out: &mut [u8], at: usize, count: usize) -> usize
-    requires { TextFits at (replicate count 32) }
-    ensures { TextPut (replicate count 32) at out.old result out.new }
+fn put_blanks(text: &mut TextBuffer, count: usize)
+    requires { HasRoom (replicate count 32) text.old }
+    ensures { Puts (replicate count 32) text.old text.new }
 {
-    let mut next = at;
-    for i in 0..count {
-        next = put_byte(out, next, b' ');
+    for _ in 0..count {
+        text.put_byte(b' ');
     }
-    next
 }
 
-fn put_right_aligned(out: &mut [u8], at: usize, width: usize, n: usize) -> usize
-    requires { (length (decimal n) ≤ width) × TextFits at (right_aligned width n) }
-    ensures { TextPut (right_aligned width n) at out.old result out.new }
+fn put_right_aligned(text: &mut TextBuffer, width: usize, n: usize)
+    requires { (length (decimal n) ≤ width) × HasRoom (right_aligned width n) text.old }
+    ensures { Puts (right_aligned width n) text.old text.new }
 {
-    let number = put_blanks(out, at, width - decimal_length(n));
-    put_decimal(out, number, n)
+    put_blanks(text, width - decimal_length(n));
+    text.put_decimal(n);
 }
 
-fn put_line(out: &mut [u8], at: usize, line: Line) -> usize
-    requires { LineFits line × TextFits at (columns_of line) }
-    ensures { TextPut (columns_of line) at out.old result out.new }
+fn put_line(text: &mut TextBuffer, line: Line)
+    requires { LineFits line × HasRoom (columns_of line) text.old }
+    ensures { Puts (columns_of line) text.old text.new }
 {
-    let middle = put_right_aligned(out, at, 2, line.point);
-    let wait = put_bytes(out, middle, &middle_columns(line.set, line.label));
-    let end = put_right_aligned(out, wait, 6, line.wait as usize);
-    put_byte(out, end, b'\n')
+    put_right_aligned(text, 2, line.point);
+    text.put_bytes(&middle_columns(line.set, line.label));
+    put_right_aligned(text, 6, line.wait as usize);
+    text.put_byte(b'\n');
 }
 
 // The line of a cell, if it is above 0.
-fn put_cell(out: &mut [u8], at: usize, plan: &[u8], table: &[u32], c: usize) -> usize
+fn put_cell(text: &mut TextBuffer, plan: &[u8], table: &[u32], c: usize)
     requires printable { Printable plan.now table.now × (c < cells_of (plan_of plan.now)) }
-    requires text_fits { TextFits at (cell_text (plan_of plan.now) table.now c) }
-    ensures { TextPut (cell_text (plan_of plan.now) table.now c) at out.old result out.new }
+    requires text_fits { HasRoom (cell_text (plan_of plan.now) table.now c) text.old }
+    ensures { Puts (cell_text (plan_of plan.now) table.now c) text.old text.new }
 {
-    if table[c] == 0 {
-        return at;
+    if table[c] != 0 {
+        put_line(text, line_at(table, frame_of(plan), c));
     }
-    put_line(out, at, line_at(table, frame_of(plan), c))
 }
 
-pub fn put_page(out: &mut [u8], plan: &[u8], table: &[u32]) -> usize
-    requires { Printable plan.now table.now }
-    ensures { TextPut (page_of (plan_of plan.now) table.now) 0 out.old result out.new }
+pub fn put_page(text: &mut TextBuffer, plan: &[u8], table: &[u32])
+    requires { Printable plan.now table.now × HasRoom (page_of (plan_of plan.now) table.now) text.old }
+    ensures { Puts (page_of (plan_of plan.now) table.now) text.old text.new }
 {
-    let end = cells(plan);
-    let mut next = 0;
-    for c in 0..end {
-        next = put_cell(out, next, plan, table, c);
+    for c in 0..cells(plan) {
+        put_cell(text, plan, table, c);
     }
-    next
 }

@@ -6,6 +6,7 @@ pub mod Digits
 pub mod Places
 pub mod Ranges
 pub mod Tests
+pub mod Chains
 pub mod Horizons
 pub mod Unlabelled
 pub mod Fewer

@@ -7,4 +7,5 @@ pub mod Layout
 pub mod Forms
 pub mod Horizons
 pub mod Refusal
+pub mod Numbers
 pub mod Moments

@@ -2,15 +2,14 @@
 ghost use Rattle.std.specs.Prelude.{◌≡◌, ◌<◌};
 ghost use Rattle.plan.specs.Bytes.{byte_at, word_at};
 
-use crate::numbers::widen_byte;
-
 pub fn byte_at(bytes: &[u8], at: usize) -> usize
     ensures { (result ≡ byte_at bytes.now at) × (result < 256) }
 {
     if at < bytes.len() {
-        return widen_byte(bytes[at]);
+        usize::from(bytes[at])
+    } else {
+        0
     }
-    0
 }
 
 pub fn word_at(bytes: &[u8], at: usize) -> u64

@@ -1,9 +1,10 @@
 // The fields of a plan, each read from its bytes when it is asked for. A row that the bytes do not reach reads as 0.
 ghost use Rattle.std.specs.Prelude.{◌≡◌, ◌<◌, ◌≤◌, ◌^◌};
 ghost use Rattle.plan.specs.Plan.{width as width_of, cells as cells_of};
-ghost use Rattle.plan.specs.Layout.{plan_of, labels_at, label_bytes, ends_at, data_at, row_of_edge, spare_at, length_for};
+ghost use Rattle.plan.specs.Layout.{plan_of, labels_at, label_bytes, ends_at, data_at, row_of_edge, length_for};
 
 use crate::bytes::{byte_at, word_at};
+use crate::edge_rows::EdgeRows;
 
 pub fn points(plan: &[u8]) -> usize
     ensures { (result ≡ (plan_of plan.now).points) × (result < 256) }
@@ -150,106 +151,38 @@ pub fn link_most(plan: &[u8], i: usize) -> u64
     word_at(plan, data_at(plan, i) + 2)
 }
 
-// Where the ends of edge 0 stand.
-pub fn edges_at(plan: &[u8]) -> usize
-    ensures { (result ≡ ends_at plan.now (row_of_edge plan.now 0)) × (result < 2048) }
-{
-    ends_at(plan, edge_row(plan, 0))
-}
-
-// Where the four bytes of edge 0 stand.
-pub fn edge_data_at(plan: &[u8]) -> usize
-    ensures { (result ≡ data_at plan.now (row_of_edge plan.now 0)) × (result < 4096) }
-{
-    data_at(plan, edge_row(plan, 0))
-}
-
-// The fields of an edge for loops over edges, which find once where edge 0 stands.
-pub fn edge_from_at(plan: &[u8], ends: usize, i: usize) -> usize
-    requires { (i < 256) × (ends ≡ ends_at plan.now (row_of_edge plan.now 0)) × (ends < 2048) }
-    ensures { (result ≡ (plan_of plan.now).from i) × (result < 256) }
-{
-    byte_at(plan, ends + 2 * i)
-}
-
-pub fn edge_to_at(plan: &[u8], ends: usize, i: usize) -> usize
-    requires { (i < 256) × (ends ≡ ends_at plan.now (row_of_edge plan.now 0)) × (ends < 2048) }
-    ensures { (result ≡ (plan_of plan.now).to i) × (result < 256) }
-{
-    byte_at(plan, ends + 2 * i + 1)
-}
-
-// The weight where it is not negative, else 0.
-pub fn edge_up_at(plan: &[u8], bytes: usize, i: usize) -> u64
-    requires { (i < 256) × (bytes ≡ data_at plan.now (row_of_edge plan.now 0)) × (bytes < 4096) }
-    ensures { (result ≡ (plan_of plan.now).up i) × (result < 65536) }
-{
-    let weight = word_at(plan, bytes + 4 * i);
-    if weight < 32768 {
-        return weight;
-    }
-    0
-}
-
-// The weight's negative where it is negative, else 0.
-pub fn edge_down_at(plan: &[u8], bytes: usize, i: usize) -> u64
-    requires { (i < 256) × (bytes ≡ data_at plan.now (row_of_edge plan.now 0)) × (bytes < 4096) }
-    ensures { (result ≡ (plan_of plan.now).down i) × (result < 65536) }
-{
-    let weight = word_at(plan, bytes + 4 * i);
-    if weight < 32768 {
-        return 0;
-    }
-    65536 - weight
-}
-
-pub fn edge_label_at(plan: &[u8], bytes: usize, i: usize) -> usize
-    requires { (i < 256) × (bytes ≡ data_at plan.now (row_of_edge plan.now 0)) × (bytes < 4096) }
-    ensures { (result ≡ (plan_of plan.now).label i) × (result < 256) }
-{
-    byte_at(plan, bytes + 4 * i + 2)
-}
-
-// The spare byte of an edge.
-pub fn edge_spare_at(plan: &[u8], bytes: usize, i: usize) -> usize
-    requires { (i < 256) × (bytes ≡ data_at plan.now (row_of_edge plan.now 0)) × (bytes < 4096) }
-    ensures { (result ≡ spare_at plan.now i) × (result < 256) }
-{
-    byte_at(plan, bytes + 4 * i + 3)
-}
-
 // The fields of an edge that is asked for alone.
 pub fn edge_from(plan: &[u8], i: usize) -> usize
     requires { i < 256 }
     ensures { (result ≡ (plan_of plan.now).from i) × (result < 256) }
 {
-    edge_from_at(plan, edges_at(plan), i)
+    EdgeRows::new(plan).from(i)
 }
 
 pub fn edge_to(plan: &[u8], i: usize) -> usize
     requires { i < 256 }
     ensures { (result ≡ (plan_of plan.now).to i) × (result < 256) }
 {
-    edge_to_at(plan, edges_at(plan), i)
+    EdgeRows::new(plan).to(i)
 }
 
 pub fn edge_up(plan: &[u8], i: usize) -> u64
     requires { i < 256 }
     ensures { (result ≡ (plan_of plan.now).up i) × (result < 65536) }
 {
-    edge_up_at(plan, edge_data_at(plan), i)
+    EdgeRows::new(plan).up(i)
 }
 
 pub fn edge_down(plan: &[u8], i: usize) -> u64
     requires { i < 256 }
     ensures { (result ≡ (plan_of plan.now).down i) × (result < 65536) }
 {
-    edge_down_at(plan, edge_data_at(plan), i)
+    EdgeRows::new(plan).down(i)
 }
 
 pub fn edge_label(plan: &[u8], i: usize) -> usize
     requires { i < 256 }
     ensures { (result ≡ (plan_of plan.now).label i) × (result < 256) }
 {
-    edge_label_at(plan, edge_data_at(plan), i)
+    EdgeRows::new(plan).label(i)
 }

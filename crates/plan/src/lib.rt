@@ -3,22 +3,25 @@
 
 mod bounds;
 mod bytes;
+mod edge_rows;
 mod fields;
 mod label;
 mod marks;
 mod numbers;
+mod refusal;
 
 pub use bounds::{horizon, largest};
 pub use bytes::{byte_at, word_at};
+pub use edge_rows::EdgeRows;
 pub use fields::{
-    cells, data_at, edge_data_at, edge_down, edge_down_at, edge_from, edge_from_at, edge_label,
-    edge_label_at, edge_row, edge_spare_at, edge_to, edge_to_at, edge_up, edge_up_at, edges,
-    edges_at, ends_at, label_bytes, labels, labels_at, length_for, link_activation, link_finish,
-    link_least, link_most, links, observer, point_label, points, propositions, width,
+    cells, data_at, edge_down, edge_from, edge_label, edge_row, edge_to, edge_up, edges, ends_at,
+    label_bytes, labels, labels_at, length_for, link_activation, link_finish, link_least,
+    link_most, links, observer, point_label, points, propositions, width,
 };
 pub use label::{clear_digit, digit, is_plain, join};
 pub use marks::plain_marks;
-pub use numbers::{cell_at, greater, lesser, widen_byte, widen_cell, widen_word};
+pub use numbers::cell_at;
+pub use refusal::Refusal;
 
 // No duration and no weight, either way, is longer, in seconds.
 pub const MOST_SECONDS: u64 = 28800;

@@ -14,10 +14,7 @@ pub fn label_fits(plan: &[u8], marks: &[u8; 256], label: usize) -> bool
     requires { (label < 256) × ((plan_of plan.now).propositions ≤ 4) × Marks marks.now }
     ensures { result ≡ label_fits (plan_of plan.now) label }
 {
-    if labels(plan) <= label {
-        return false;
-    }
-    is_plain(marks, label)
+    label < labels(plan) && is_plain(marks, label)
 }
 
 fn point_label_fits(plan: &[u8], marks: &[u8; 256], x: usize) -> bool
@@ -25,13 +22,7 @@ fn point_label_fits(plan: &[u8], marks: &[u8; 256], x: usize) -> bool
     ensures { result ≡ point_label_fits (plan_of plan.now) x }
 {
     let label = point_label(plan, x);
-    if !label_fits(plan, marks, label) {
-        return false;
-    }
-    if 0 < x {
-        return true;
-    }
-    label == 0
+    label_fits(plan, marks, label) && (0 < x || label == 0)
 }
 
 // A plan without labels of points passes.
@@ -43,13 +34,7 @@ pub fn point_labels_fit(plan: &[u8]) -> bool
         return true;
     }
     let marks = plain_marks();
-    let n = points(plan);
-    for x in 0..n {
-        if !point_label_fits(plan, &marks, x) {
-            return false;
-        }
-    }
-    true
+    (0..points(plan)).all(|x| point_label_fits(plan, &marks, x))
 }
 
 // Whether digit j of b, if it is not 0, is a's digit.
@@ -58,23 +43,14 @@ fn contains_digit(a: usize, b: usize, j: usize) -> bool
     ensures { result ≡ contains_digit a b j }
 {
     let d = digit(b, j);
-    if d == 0 {
-        return true;
-    }
-    d == digit(a, j)
+    d == 0 || d == digit(a, j)
 }
 
 fn contains_label(plan: &[u8], a: usize, b: usize) -> bool
     requires { (plan_of plan.now).propositions ≤ 4 }
     ensures { result ≡ contains_label (plan_of plan.now) a b }
 {
-    let n = propositions(plan);
-    for j in 0..n {
-        if !contains_digit(a, b, j) {
-            return false;
-        }
-    }
-    true
+    (0..propositions(plan)).all(|j| contains_digit(a, b, j))
 }
 
 // Whether the label, if it names proposition j, contains the label of its observing point.
@@ -82,23 +58,14 @@ fn contains_observer(plan: &[u8], label: usize, j: usize) -> bool
     requires { ((plan_of plan.now).propositions ≤ 4) × (j < 4) }
     ensures { result ≡ contains_observer (plan_of plan.now) label j }
 {
-    if digit(label, j) == 0 {
-        return true;
-    }
-    contains_label(plan, label, point_label(plan, observer(plan, j)))
+    digit(label, j) == 0 || contains_label(plan, label, point_label(plan, observer(plan, j)))
 }
 
 fn contains_observers(plan: &[u8], label: usize) -> bool
     requires { (plan_of plan.now).propositions ≤ 4 }
     ensures { result ≡ contains_observers (plan_of plan.now) label }
 {
-    let n = propositions(plan);
-    for j in 0..n {
-        if !contains_observer(plan, label, j) {
-            return false;
-        }
-    }
-    true
+    (0..propositions(plan)).all(|j| contains_observer(plan, label, j))
 }
 
 // Whether edge i runs from point x to the observing point of j, with a negative weight and exactly the point's label.
@@ -124,13 +91,7 @@ fn some_puts_after(plan: &[u8], x: usize, j: usize) -> bool
     requires { (x < 256) × (j < 256) }
     ensures { result ≡ some (puts_after (plan_of plan.now) x j) (plan_of plan.now).edges }
 {
-    let n = edges(plan);
-    for i in 0..n {
-        if puts_after(plan, x, j, i) {
-            return true;
-        }
-    }
-    false
+    (0..edges(plan)).any(|i| puts_after(plan, x, j, i))
 }
 
 // Whether the point, if its label names proposition j, comes after its observing point.
@@ -138,33 +99,21 @@ fn comes_after_answer(plan: &[u8], x: usize, j: usize) -> bool
     requires { (x < 256) × (j < 4) }
     ensures { result ≡ comes_after_answer (plan_of plan.now) x j }
 {
-    if digit(point_label(plan, x), j) == 0 {
-        return true;
-    }
-    some_puts_after(plan, x, j)
+    digit(point_label(plan, x), j) == 0 || some_puts_after(plan, x, j)
 }
 
 fn comes_after(plan: &[u8], x: usize) -> bool
     requires { (x < 256) × ((plan_of plan.now).propositions ≤ 4) }
     ensures { result ≡ comes_after (plan_of plan.now) x }
 {
-    let n = propositions(plan);
-    for j in 0..n {
-        if !comes_after_answer(plan, x, j) {
-            return false;
-        }
-    }
-    true
+    (0..propositions(plan)).all(|j| comes_after_answer(plan, x, j))
 }
 
 fn point_well_defined(plan: &[u8], x: usize) -> bool
     requires { (x < 256) × ((plan_of plan.now).propositions ≤ 4) }
     ensures { result ≡ point_well_defined (plan_of plan.now) x }
 {
-    if !contains_observers(plan, point_label(plan, x)) {
-        return false;
-    }
-    comes_after(plan, x)
+    contains_observers(plan, point_label(plan, x)) && comes_after(plan, x)
 }
 
 fn edge_well_defined(plan: &[u8], i: usize) -> bool
@@ -194,38 +143,20 @@ fn edges_well_defined(plan: &[u8]) -> bool
     requires { (plan_of plan.now).propositions ≤ 4 }
     ensures { result ≡ every (edge_well_defined (plan_of plan.now)) (plan_of plan.now).edges }
 {
-    let n = edges(plan);
-    for i in 0..n {
-        if !edge_well_defined(plan, i) {
-            return false;
-        }
-    }
-    true
+    (0..edges(plan)).all(|i| edge_well_defined(plan, i))
 }
 
 fn points_well_defined(plan: &[u8]) -> bool
     requires { (plan_of plan.now).propositions ≤ 4 }
     ensures { result ≡ every (point_well_defined (plan_of plan.now)) (plan_of plan.now).points }
 {
-    let n = points(plan);
-    for x in 0..n {
-        if !point_well_defined(plan, x) {
-            return false;
-        }
-    }
-    true
+    (0..points(plan)).all(|x| point_well_defined(plan, x))
 }
 
 fn links_well_defined(plan: &[u8]) -> bool
     ensures { result ≡ every (link_well_defined (plan_of plan.now)) (plan_of plan.now).links }
 {
-    let n = links(plan);
-    for i in 0..n {
-        if !link_well_defined(plan, i) {
-            return false;
-        }
-    }
-    true
+    (0..links(plan)).all(|i| link_well_defined(plan, i))
 }
 
 // A plan without labels of points is.
@@ -236,11 +167,5 @@ pub fn well_defined(plan: &[u8]) -> bool
     if label_bytes(plan) == 0 {
         return true;
     }
-    if !edges_well_defined(plan) {
-        return false;
-    }
-    if !points_well_defined(plan) {
-        return false;
-    }
-    links_well_defined(plan)
+    edges_well_defined(plan) && points_well_defined(plan) && links_well_defined(plan)
 }

@@ -1,64 +1,45 @@
 // Refusals 1 to 5, 17 and 18, in their order.
 ghost use Rattle.std.specs.Prelude.{◌≡◌, ◌<◌, ◌≤◌};
 ghost use Rattle.plan.specs.Label.{Marks};
-ghost use Rattle.plan.specs.Layout.{plan_of, EdgesAt};
+ghost use Rattle.plan.specs.Layout.{plan_of};
+ghost use Rattle.plan.specs.Numbers.{refusal_number};
 ghost use Rattle.plan.specs.Refusal.{every, differs, sizes_fit, length_fits, observer_fits, link_ends_fit, duration_fits, is_link_fit, edge_ends_fit, edge_fits, refusal as refusal_of};
 
 use plan::{
-    MOST_SECONDS, cells, edge_data_at, edge_down_at, edge_from_at, edge_label_at, edge_spare_at,
-    edge_to_at, edge_up_at, edges, edges_at, length_for, link_activation, link_finish, link_least,
-    link_most, links, observer, plain_marks, points, propositions,
+    EdgeRows, MOST_SECONDS, Refusal, cells, edges, length_for, link_activation, link_finish,
+    link_least, link_most, links, observer, plain_marks, points, propositions,
 };
 use plan_labels::{label_fits, point_labels_fit, well_defined};
 
-// The numbers of the refusals.
-const ACCEPTED: u32 = 0;
-
-const SHORT: u32 = 1;
-
-const LENGTH: u32 = 1;
-
-const SIZES: u32 = 2;
-
-const OBSERVER: u32 = 3;
-
-const LINK: u32 = 4;
-
-const EDGE: u32 = 5;
-
-const POINT_LABEL: u32 = 17;
-
-const ILL_DEFINED: u32 = 18;
-
-// 0 for an accepted plan, or the number of its refusal.
-pub fn refusal(plan: &[u8]) -> u32
-    ensures { result ≡ refusal_of plan.now }
+// The first refusal that applies; none for an accepted plan.
+pub fn refusal(plan: &[u8]) -> Result<(), Refusal>
+    ensures { refusal_number result ≡ refusal_of plan.now }
 {
     if plan.len() < 4 {
-        return SHORT;
+        return Err(Refusal::Length);
     }
     if !sizes_fit(plan) {
-        return SIZES;
+        return Err(Refusal::Sizes);
     }
     if !length_fits(plan) {
-        return LENGTH;
+        return Err(Refusal::Length);
     }
     if !observers_fit(plan) {
-        return OBSERVER;
+        return Err(Refusal::Observer);
     }
     if !point_labels_fit(plan) {
-        return POINT_LABEL;
+        return Err(Refusal::PointLabel);
     }
     if !links_fit(plan) {
-        return LINK;
+        return Err(Refusal::Link);
     }
     if !edges_fit(plan) {
-        return EDGE;
+        return Err(Refusal::Edge);
     }
     if !well_defined(plan) {
-        return ILL_DEFINED;
+        return Err(Refusal::IllDefined);
     }
-    ACCEPTED
+    Ok(())
 }
 
 fn length_fits(plan: &[u8]) -> bool
@@ -96,13 +77,7 @@ fn sizes_fit(plan: &[u8]) -> bool
 fn observers_fit(plan: &[u8]) -> bool
     ensures { result ≡ every (observer_fits (plan_of plan.now)) (plan_of plan.now).propositions }
 {
-    let n = propositions(plan);
-    for j in 0..n {
-        if !observer_fits(plan, j) {
-            return false;
-        }
-    }
-    true
+    (0..propositions(plan)).all(|j| observer_fits(plan, j))
 }
 
 fn observer_fits(plan: &[u8], j: usize) -> bool
@@ -124,24 +99,13 @@ fn not_observing(plan: &[u8], x: usize, n: usize) -> bool
     requires { n ≤ 256 }
     ensures { result ≡ differs (plan_of plan.now).observer x n }
 {
-    for j in 0..n {
-        if observer(plan, j) == x {
-            return false;
-        }
-    }
-    true
+    (0..n).all(|j| observer(plan, j) != x)
 }
 
 fn links_fit(plan: &[u8]) -> bool
     ensures { result ≡ every (is_link_fit (plan_of plan.now)) (plan_of plan.now).links }
 {
-    let n = links(plan);
-    for i in 0..n {
-        if !link_fits(plan, i) {
-            return false;
-        }
-    }
-    true
+    (0..links(plan)).all(|i| link_fits(plan, i))
 }
 
 fn link_fits(plan: &[u8], i: usize) -> bool
@@ -184,12 +148,7 @@ fn not_finishing(plan: &[u8], c: usize, n: usize) -> bool
     requires { n ≤ 256 }
     ensures { result ≡ differs (plan_of plan.now).finish c n }
 {
-    for i in 0..n {
-        if link_finish(plan, i) == c {
-            return false;
-        }
-    }
-    true
+    (0..n).all(|i| link_finish(plan, i) != c)
 }
 
 fn duration_fits(plan: &[u8], i: usize) -> bool
@@ -212,38 +171,30 @@ fn edges_fit(plan: &[u8]) -> bool
     ensures { result ≡ every (edge_fits plan.now (plan_of plan.now)) (plan_of plan.now).edges }
 {
     let marks = plain_marks();
-    let n = edges(plan);
-    let ends = edges_at(plan);
-    let bytes = edge_data_at(plan);
-    for i in 0..n {
-        if !edge_fits(plan, &marks, ends, bytes, i) {
-            return false;
-        }
-    }
-    true
+    let rows = EdgeRows::new(plan);
+    (0..edges(plan)).all(|i| edge_fits(&rows, &marks, i))
 }
 
-fn edge_fits(plan: &[u8], marks: &[u8; 256], ends: usize, bytes: usize, i: usize) -> bool
-    requires i_bound { (i < 256) × ((plan_of plan.now).propositions ≤ 4) × Marks marks.now }
-    requires edges_at { EdgesAt plan.now ends bytes }
-    ensures { result ≡ edge_fits plan.now (plan_of plan.now) i }
+fn edge_fits(rows: &EdgeRows, marks: &[u8; 256], i: usize) -> bool
+    requires { (i < 256) × ((plan_of rows.now.plan.now).propositions ≤ 4) × Marks marks.now }
+    ensures { result ≡ edge_fits rows.now.plan.now (plan_of rows.now.plan.now) i }
 {
-    if !edge_ends_fit(plan, ends, bytes, i) {
+    if !edge_ends_fit(rows, i) {
         return false;
     }
-    if !label_fits(plan, marks, edge_label_at(plan, bytes, i)) {
+    if !label_fits(rows.plan, marks, rows.label(i)) {
         return false;
     }
-    edge_spare_at(plan, bytes, i) == 0
+    rows.spare(i) == 0
 }
 
-fn edge_ends_fit(plan: &[u8], ends: usize, bytes: usize, i: usize) -> bool
-    requires { (i < 256) × EdgesAt plan.now ends bytes }
-    ensures { result ≡ edge_ends_fit (plan_of plan.now) i }
+fn edge_ends_fit(rows: &EdgeRows, i: usize) -> bool
+    requires { i < 256 }
+    ensures { result ≡ edge_ends_fit (plan_of rows.now.plan.now) i }
 {
-    let n = points(plan);
-    let x = edge_from_at(plan, ends, i);
-    let y = edge_to_at(plan, ends, i);
+    let n = points(rows.plan);
+    let x = rows.from(i);
+    let y = rows.to(i);
     if n <= x {
         return false;
     }
@@ -253,8 +204,8 @@ fn edge_ends_fit(plan: &[u8], ends: usize, bytes: usize, i: usize) -> bool
     if x == y {
         return false;
     }
-    if MOST_SECONDS < edge_up_at(plan, bytes, i) {
+    if MOST_SECONDS < rows.up(i) {
         return false;
     }
-    edge_down_at(plan, bytes, i) <= MOST_SECONDS
+    rows.down(i) <= MOST_SECONDS
 }

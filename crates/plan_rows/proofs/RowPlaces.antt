@@ -11,6 +11,7 @@ use Rattle.plan.specs.Bytes.{byte_at}
 use Rattle.plan.specs.Layout.{labels_at, label_bytes, ends_at, data_at, row_of_edge, plan_of, length_for}
 use Rattle.plan.specs.Refusal.{Accepted}
 use Rattle.plan.proofs.Ranges.{edge_byte, accepted_bounded}
+use Rattle.plan.proofs.Forms.{accepted_length}
 use Rattle.plan_rows.specs.Rows.{with_rows}
 use Rattle.plan_rows.specs.RowBytes.{RowsIn, source_of, row_byte, row_bytes_to}
 
@@ -31,25 +32,41 @@ module _ (bs rows : List ℕ) where
       go r (no e) = get_or-append (row_bytes_to bs rows n) (row_byte bs rows n ∷ []) 0 i (omega (arith, bytes_length n)) ∙ r (omega arith)
 
   -- ---- where the rows' ends, the links' data and the rows' data begin
-  abbrev ends : ℕ
+  abbrev pub ends : ℕ
   ends = labels_at bs + 2 * byte_at bs 2
 
-  abbrev link_data : ℕ
+  abbrev pub link_data : ℕ
   link_data = ends + 2 * length rows
 
-  abbrev edge_data : ℕ
+  abbrev pub edge_data : ℕ
   edge_data = link_data + 4 * byte_at bs 2
 
-  -- ---- what the code needs of its numbers: the rows' count and their numbers fit a byte, and the last place is in a row's data
+  -- ---- what the code needs of its numbers: the rows' count and their numbers fit a byte
   pub count_few : Accepted bs × RowsIn (plan_of bs) rows → length rows < 256
   count_few a = omega (arith, a.1.few, (accepted_bounded bs a.0).edges_in)
 
   pub row_few : Accepted bs × RowsIn (plan_of bs) rows → (i : ℕ) → i < length rows → get_or rows i 0 < 256
   row_few a i h = edge_byte bs a.0 (get_or rows i 0) (a.1.row_in i h)
 
-  pub data_row : (at d : ℕ) → d ≡ edge_data → d ≤ at → at < length_for (with_rows (plan_of bs) rows) → (at - d) / 4 < length rows
+  -- ---- the plan's bytes, and those of the plan with these rows, counted
+  pub counted : Accepted bs × RowsIn (plan_of bs) rows → (length bs ≡ labels_at bs + label_bytes bs + 6 * (byte_at bs 2 + byte_at bs 3)) × (length rows ≤ byte_at bs 3) × (length_for (with_rows (plan_of bs) rows) ≡ edge_data + 4 * length rows)
   unfolding plan_of length_for
-  data_row at d e h k = omega arith
+  counted a = let l = accepted_length bs a.0 in (omega arith, a.1.few, omega arith)
+
+  -- where parts of the whole plan end
+  module _ (a : Accepted bs × RowsIn (plan_of bs) rows) where
+    pub links_in : data_at bs 0 + 4 * byte_at bs 2 ≤ length bs
+    unfolding data_at ends_at
+    links_in = omega (arith, counted a)
+
+    module _ (i : ℕ) (h : i < length rows) where
+      pub end_in : ends_at bs (row_of_edge bs (get_or rows i 0)) + 2 ≤ length bs
+      unfolding plan_of ends_at row_of_edge
+      end_in = omega (arith, counted a, a.1.row_in i h)
+
+      pub data_in : data_at bs (row_of_edge bs (get_or rows i 0)) + 4 ≤ length bs
+      unfolding plan_of data_at ends_at row_of_edge
+      data_in = omega (arith, counted a, a.1.row_in i h)
 
   -- ---- where byte `at` comes from
   module _ (at : ℕ) where

@@ -3,7 +3,7 @@ use mathlib.Core.Path.{◌≡◌, refl, sym, ap, subst}
 use mathlib.Core.Bool.{Bool, true, false, cond, not, ◌&&◌, ◌||◌}
 use mathlib.Core.Logic.{inl, inr, ⊎_elim}
 use mathlib.Core.List.{List, [], ◌∷◌, map, Memᴰ}
-use mathlib.Core.Option.{Option, none, some}
+use Rattle.std.specs.Prelude.{Option, None, Some}
 use Prim.Native.Nat.{ℕ, zero, suc, ◌+◌, ◌-◌, ◌*◌, ◌/◌, ◌%◌, ◌^◌, ◌≤◌, ◌<◌}
 use native.Mathlib.Decide.{ℕ_discrete}
 use native.Mathlib.Nat.{eq-or-lt_of_le, le_of_suc-le-suc}
@@ -12,6 +12,7 @@ use borrow.Author.Tests.{ltb-true, ltb-false, eqb-true, eqb-false}
 use lib.Dec.{T as Is, ltb, leb, eqb, ltb→lt, lt→ltb, leb→le, le→leb, eqb→eq, eqb_refl}
 use lib.Ieee.Fits.{and_l, and_r, and_i}
 use lib.ListN.{length}
+use Rattle.std.specs.Bool.{then_some}
 use Rattle.plan.specs.Label.{plain}
 use Rattle.plan.specs.Plan.{Plan}
 use Rattle.plan.specs.Layout.{plan_of}
@@ -29,7 +30,7 @@ use Rattle.rules_apply.specs.Applying.{gives_line_of}
 use Rattle.rules_apply.proofs.SameLines.{gives_facts, facts_give}
 use Rattle.rules.specs.Derivations.{InPlan, Parent, Given, Follows, Derivation, SelfWaitBy}
 use Rattle.rules.specs.Rules.{uses_second}
-use Rattle.replay.specs.Listings.{line_count, head_line, head_rule, row_of, first_parent, second_parent, lines_in, just, bound_of, bound_rule, edge_rule, rule_of, parent_line}
+use Rattle.replay.specs.Listings.{line_count, head_line, head_rule, row_of, first_parent, second_parent, lines_in, bound_of, bound_rule, edge_rule, rule_of, parent_line}
 use Rattle.replay.specs.Replaying.{laid_out, in_range, parents_known, follows, judge_rule, judge_line, or_else, judge_lines, judge_last, judge_listing, replay}
 use Rattle.replay.specs.Derives.{LineDerives, ListingDerives}
 
@@ -61,11 +62,11 @@ or_else_lem v w e = go (eqb v 0) refl e
     go false q e = absurd (eqb-false v 0 q e)
 
 -- ---- a rule that a line names is one of the plan's
-never : {r : Rule} {Q : Type 0} → ◌≡◌ {A = Option Rule} none (some r) → Q
+never : {r : Rule} {Q : Type 0} → ◌≡◌ {A = Option Rule} None (Some r) → Q
 never e = absurd (let z : ◌≡◌ {A = ℕ} 0 1 = cc in omega arith)
 
 module _ (P : Plan) where
-  named : (b : Bool) (q r : Rule) → (Is b → InPlan P q) → just b q ≡ some r → InPlan P r
+  named : (b : Bool) (q r : Rule) → (Is b → InPlan P q) → then_some b q ≡ Some r → InPlan P r
   named true q r f e = subst (InPlan P) (let z : q ≡ r = cc in z) (f tt)
   named false q r f e = never e
 
@@ -73,25 +74,25 @@ module _ (P : Plan) where
   bound_in b true h = h
   bound_in b false h = h
 
-  bound_named : (b : ℕ) (r : Rule) → bound_rule P b ≡ some r → InPlan P r
+  bound_named : (b : ℕ) (r : Rule) → bound_rule P b ≡ Some r → InPlan P r
   bound_named b r = named (ltb (b / 2) P.links) (Propagation (bound_of b)) r (λ t. bound_in b (eqb (b % 2) 0) (ltb→lt (b / 2) P.links t))
 
   horizon_in : (i : ℕ) → ltb i P.edges ≡ false → eqb i P.edges ≡ false → ltb i (P.edges + P.points) ≡ true → InPlan P (Propagation (HorizonEdge (i - P.edges)))
   horizon_in i f g t = let h = ltb-false i P.edges f in (omega (arith, eqb-false i P.edges g), omega (arith, ltb-true i (P.edges + P.points) t))
 
   -- of two, by a test
-  either_named : (b : Bool) (o p : Option Rule) (r : Rule) → cond b o p ≡ some r → (b ≡ true → o ≡ some r → InPlan P r) → (b ≡ false → p ≡ some r → InPlan P r) → InPlan P r
+  either_named : (b : Bool) (o p : Option Rule) (r : Rule) → cond b o p ≡ Some r → (b ≡ true → o ≡ Some r → InPlan P r) → (b ≡ false → p ≡ Some r → InPlan P r) → InPlan P r
   either_named true o p r e f g = f refl e
   either_named false o p r e f g = g refl e
 
-  edge_named : (i : ℕ) (r : Rule) → edge_rule P i ≡ some r → InPlan P r
+  edge_named : (i : ℕ) (r : Rule) → edge_rule P i ≡ Some r → InPlan P r
   edge_named i r e =
       either_named (ltb i P.edges) _ _ r e (λ t. named true (Propagation (PlanEdge i)) r (λ u. ltb-true i P.edges t))
       (λ f d. either_named (eqb i P.edges) _ _ r d (λ t. never)
       (λ g c. either_named (ltb i (P.edges + P.points)) _ _ r c (λ t. named true (Propagation (HorizonEdge (i - P.edges))) r (λ u. horizon_in i f g t))
       (λ h. bound_named _ r)))
 
-  pub in_plan : (rule i : ℕ) (r : Rule) → rule_of P rule i ≡ some r → InPlan P r
+  pub in_plan : (rule i : ℕ) (r : Rule) → rule_of P rule i ≡ Some r → InPlan P r
   in_plan zero i r e = never e
   in_plan (suc zero) i r e = edge_named i r e
   in_plan (suc (suc zero)) i r e = named (ltb i P.links) (LowerCase i) r (ltb→lt i P.links) e
@@ -128,8 +129,8 @@ module _ (P : Plan) (bs : List ℕ) (i : ℕ) where
 
   rule_derives : (o : Option Rule) → rule_of P (head_rule bs i) (row_of bs i) ≡ o → Is (in_range P (head_line bs i)) → judge_rule P bs i o ≡ 0 → LineDerives P bs i
   unfolding in_range parents_known follows
-  rule_derives none q t e = absurd (omega arith)
-  rule_derives (some r) q t e =
+  rule_derives None q t e = absurd (omega arith)
+  rule_derives (Some r) q t e =
       let x : Is (parents_known P bs i r) × (◌≡◌ {A = ℕ} (cond (not (follows P bs i r)) 10 0) 0) = passes (parents_known P bs i r) 8 _ e in
       let y : Is (follows P bs i r) × (◌≡◌ {A = ℕ} 0 0) = passes (follows P bs i r) 9 0 x.1 in
       let k : Is (parents_known P bs i r) = x.0 in

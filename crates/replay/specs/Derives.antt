@@ -1,6 +1,5 @@
 -- What replay accepts, said without its order (11.7): the bytes that are a derivation, by the rules, rows and parents that they name, to "the first alarm waits for itself".
-use Rattle.std.specs.Prelude.{◌≡◌, List, ℕ, ◌+◌, ◌-◌, ◌*◌, ◌^◌, ◌≤◌, ◌<◌, T as Is, length}
-use Rattle.std.proofs.Math.Option.{some}
+use Rattle.std.specs.Prelude.{◌≡◌, Some, List, ℕ, ◌+◌, ◌-◌, ◌*◌, ◌^◌, ◌≤◌, ◌<◌, T as Is, length}
 use Rattle.plan.specs.Label.{plain}
 use Rattle.plan.specs.Plan.{Plan}
 use Rattle.plan.specs.Layout.{plan_of}
@@ -15,7 +14,7 @@ pub record LineDerives (P : Plan) (bs : List ℕ) (i : ℕ) : Type 0 where
   pub set_in : (head_line bs i).set < 2 ^ P.links
   pub label_in : (head_line bs i).label < 4 ^ P.propositions
   pub rule : Rule
-  pub named : rule_of P (head_rule bs i) (row_of bs i) ≡ some rule
+  pub named : rule_of P (head_rule bs i) (row_of bs i) ≡ Some rule
   pub first_known : first_parent bs i < P.points + i
   pub second_known : Is (uses_second rule) → second_parent bs i < P.points + i
   pub second_unused : (Is (uses_second rule) → ⊥) → second_parent bs i ≡ 0

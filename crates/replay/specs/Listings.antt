@@ -1,6 +1,6 @@
 -- The bytes of a listing (10.2, 10.3): m, then m heads, then m grounds.
-use Rattle.std.specs.Prelude.{Bool, true, false, cond, List, map, ℕ, zero, suc, ◌+◌, ◌-◌, ◌*◌, ◌/◌, ◌%◌, ltb, eqb}
-use Rattle.std.proofs.Math.Option.{Option, none, some}
+use Rattle.std.specs.Prelude.{cond, Option, None, Some, List, map, ℕ, zero, suc, ◌+◌, ◌-◌, ◌*◌, ◌/◌, ◌%◌, ltb, eqb}
+use Rattle.std.specs.Bool.{then_some}
 use Rattle.plan.specs.Bytes.{byte_at, word_at}
 use Rattle.plan.specs.Plan.{Plan}
 use Rattle.rules.specs.declared.Line.{Line}
@@ -46,35 +46,31 @@ abbrev pub lines_in : List ℕ → List Line
 lines_in bs = map (head_line bs) (below (line_count bs))
 
 -- ---- rules, rows and parents by their numbers
-abbrev pub just : Bool → Rule → Option Rule
-just true r = some r
-just false r = none
-
 -- 10.3: the edges of links, counted from 0: link i's are 2i, its upper bound, and 2i + 1, its lower bound
 abbrev pub bound_of : ℕ → Edge
 bound_of b = cond (eqb (b % 2) 0) (UpperBound (b / 2)) (LowerBound (b / 2))
 
 abbrev pub bound_rule : Plan → ℕ → Option Rule
-bound_rule P b = just (ltb (b / 2) P.links) (Propagation (bound_of b))
+bound_rule P b = then_some (ltb (b / 2) P.links) (Propagation (bound_of b))
 
 -- 10.3: the row of rule 1: a plan edge below e, none at e, the horizon edge to Y at e + Y, and from e + n on the edges of links
 abbrev pub edge_rule : Plan → ℕ → Option Rule
 edge_rule P row =
-    cond (ltb row P.edges) (some (Propagation (PlanEdge row)))
-    (cond (eqb row P.edges) none
-    (cond (ltb row (P.edges + P.points)) (some (Propagation (HorizonEdge (row - P.edges))))
+    cond (ltb row P.edges) (Some (Propagation (PlanEdge row)))
+    (cond (eqb row P.edges) None
+    (cond (ltb row (P.edges + P.points)) (Some (Propagation (HorizonEdge (row - P.edges))))
     (bound_rule P (row - (P.edges + P.points)))))
 
 -- 10.3: the rule of that number with its row, if both are in range
 abbrev pub rule_of : Plan → ℕ → ℕ → Option Rule
-rule_of P zero row = none
+rule_of P zero row = None
 rule_of P (suc zero) row = edge_rule P row
-rule_of P (suc (suc zero)) row = just (ltb row P.links) (LowerCase row)
-rule_of P (suc (suc (suc zero))) row = just (ltb row P.links) (UpperCase row)
-rule_of P (suc (suc (suc (suc zero)))) row = just (ltb row P.links) (LetterRemoval row)
-rule_of P (suc (suc (suc (suc (suc zero))))) row = just (ltb row P.propositions) (OwnLiteral row)
-rule_of P (suc (suc (suc (suc (suc (suc zero)))))) row = just (ltb row P.propositions) (LiteralRemoval row)
-rule_of P (suc (suc (suc (suc (suc (suc (suc r))))))) row = none
+rule_of P (suc (suc zero)) row = then_some (ltb row P.links) (LowerCase row)
+rule_of P (suc (suc (suc zero))) row = then_some (ltb row P.links) (UpperCase row)
+rule_of P (suc (suc (suc (suc zero)))) row = then_some (ltb row P.links) (LetterRemoval row)
+rule_of P (suc (suc (suc (suc (suc zero))))) row = then_some (ltb row P.propositions) (OwnLiteral row)
+rule_of P (suc (suc (suc (suc (suc (suc zero)))))) row = then_some (ltb row P.propositions) (LiteralRemoval row)
+rule_of P (suc (suc (suc (suc (suc (suc (suc r))))))) row = None
 
 -- 10.3: the line that a parent's number names: a starting line below n, else a line of the listing
 abbrev pub parent_line : Plan → List ℕ → ℕ → Line

@@ -1,6 +1,5 @@
 -- Replay (11): 0, or the number of the first refusal that applies.
-use Rattle.std.specs.Prelude.{Bool, cond, not, ◌&&◌, ◌||◌, List, ℕ, zero, suc, ◌+◌, ◌-◌, ◌*◌, ◌^◌, ltb, leb, eqb, length}
-use Rattle.std.proofs.Math.Option.{Option, none, some}
+use Rattle.std.specs.Prelude.{Bool, cond, not, Option, None, Some, ◌&&◌, ◌||◌, List, ℕ, zero, suc, ◌+◌, ◌-◌, ◌*◌, ◌^◌, ltb, leb, eqb, length}
 use Rattle.plan.specs.Label.{plain}
 use Rattle.plan.specs.Plan.{Plan}
 use Rattle.plan.specs.Layout.{plan_of}
@@ -31,8 +30,8 @@ follows P bs i r =
 
 -- 11.3, 11.4: 9 and 10 of line i, by its rule
 abbrev pub judge_rule : Plan → List ℕ → ℕ → Option Rule → ℕ
-judge_rule P bs i none = 9
-judge_rule P bs i (some r) = cond (not (parents_known P bs i r)) 9 (cond (not (follows P bs i r)) 10 0)
+judge_rule P bs i None = 9
+judge_rule P bs i (Some r) = cond (not (parents_known P bs i r)) 9 (cond (not (follows P bs i r)) 10 0)
 
 -- 11.3, 11.4: 9 and 10 of line i
 unfoldable pub judge_line : Plan → List ℕ → ℕ → ℕ

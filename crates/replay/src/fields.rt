@@ -1,5 +1,8 @@
 // The fields of a listing, each read from its bytes when it is asked for; past the end they read as 0.
-ghost use Rattle.std.specs.Prelude.{◌≡◌, ◌<◌, ◌≤◌};
+#![tactic(auto, unfolding(crate::specs::Listings::long_at, crate::specs::Listings::line_count, crate::specs::Listings::head_in, crate::specs::Listings::head_line, crate::specs::Listings::head_rule, crate::specs::Listings::ground_at, crate::specs::Listings::row_of, crate::specs::Listings::first_parent, crate::specs::Listings::second_parent))]
+
+ghost use Rattle.std.specs.Prelude.{◌≡◌, ◌+◌, ◌<◌, ◌≤◌};
+ghost use Rattle.plan.specs.Bytes.{word_at};
 ghost use Rattle.replay.specs.Listings as listings;
 
 use plan::{byte_at, word_at};
@@ -25,51 +28,62 @@ fn head_at(i: usize) -> usize
     2 + 8 * i
 }
 
-pub fn head_line(listing: &[u8], i: usize) -> Line
-    requires { i < 4096 }
-    ensures value { result ≡ listings.head_line listing.now i }
-    ensures wait_bound { result.wait < 4294967296 }
-{
-    let at = head_at(i);
-    Line {
-        point: byte_at(listing, at),
-        set: byte_at(listing, at + 1),
-        label: byte_at(listing, at + 2),
-        wait: long_at(listing, at + 4),
+// A listing of at most 4,096 lines.
+#[derive(Clone, Copy)]
+pub struct Listing<'a> {
+    pub bytes: &'a [u8],
+    ghost few: { listings.line_count bytes.now ≤ 4096 },
+}
+
+impl<'a> Listing<'a> {
+    pub fn head_line(&self, i: usize) -> Line
+        requires { i < 4096 }
+        ensures value { result ≡ listings.head_line self.now.bytes.now i }
+        ensures wait_bound { result.wait < 4294967296 }
+    {
+        let at = head_at(i);
+        Line {
+            point: byte_at(self.bytes, at),
+            set: byte_at(self.bytes, at + 1),
+            label: byte_at(self.bytes, at + 2),
+            wait: long_at(self.bytes, at + 4),
+        }
     }
-}
 
-pub fn head_rule(listing: &[u8], i: usize) -> usize
-    requires { i < 4096 }
-    ensures { (result ≡ listings.head_rule listing.now i) × (result < 256) }
-{
-    byte_at(listing, head_at(i) + 3)
-}
+    pub fn head_rule(&self, i: usize) -> usize
+        requires { i < 4096 }
+        ensures { (result ≡ listings.head_rule self.now.bytes.now i) × (result < 256) }
+    {
+        byte_at(self.bytes, head_at(i) + 3)
+    }
 
-fn ground_at(listing: &[u8], i: usize) -> usize
-    requires { (i < 4096) × (listings.line_count listing.now ≤ 4096) }
-    ensures { (result ≡ listings.ground_at listing.now i) × (result < 60000) }
-{
-    2 + 8 * line_count(listing) + 6 * i
-}
+    // The 16 bits at a place of a line's ground.
+    fn ground_word(&self, i: usize, at: usize) -> usize
+        requires { (i < 4096) × (at ≤ 4) }
+        ensures { (result ≡ word_at self.now.bytes.now (listings.ground_at self.now.bytes.now i + at)) × (result < 65536) }
+    {
+        let ground = 2 + 8 * line_count(self.bytes) + 6 * i;
+        word_at(self.bytes, ground + at) as usize
+    }
 
-pub fn row_of(listing: &[u8], i: usize) -> usize
-    requires { (i < 4096) × (listings.line_count listing.now ≤ 4096) }
-    ensures { (result ≡ listings.row_of listing.now i) × (result < 65536) }
-{
-    word_at(listing, ground_at(listing, i)) as usize
-}
+    pub fn row_of(&self, i: usize) -> usize
+        requires { i < 4096 }
+        ensures { (result ≡ listings.row_of self.now.bytes.now i) × (result < 65536) }
+    {
+        self.ground_word(i, 0)
+    }
 
-pub fn first_parent(listing: &[u8], i: usize) -> usize
-    requires { (i < 4096) × (listings.line_count listing.now ≤ 4096) }
-    ensures { (result ≡ listings.first_parent listing.now i) × (result < 65536) }
-{
-    word_at(listing, ground_at(listing, i) + 2) as usize
-}
+    pub fn first_parent(&self, i: usize) -> usize
+        requires { i < 4096 }
+        ensures { (result ≡ listings.first_parent self.now.bytes.now i) × (result < 65536) }
+    {
+        self.ground_word(i, 2)
+    }
 
-pub fn second_parent(listing: &[u8], i: usize) -> usize
-    requires { (i < 4096) × (listings.line_count listing.now ≤ 4096) }
-    ensures { (result ≡ listings.second_parent listing.now i) × (result < 65536) }
-{
-    word_at(listing, ground_at(listing, i) + 4) as usize
+    pub fn second_parent(&self, i: usize) -> usize
+        requires { i < 4096 }
+        ensures { (result ≡ listings.second_parent self.now.bytes.now i) × (result < 65536) }
+    {
+        self.ground_word(i, 4)
+    }
 }

@@ -2,13 +2,15 @@
 use mathlib.Core.Path.{◌≡◌, refl, sym, ap, ap₂, subst⁻¹, ◌∙◌}
 use mathlib.Core.Bool.{true, false, true≢false}
 use mathlib.Core.Logic.{◌⊎◌, inl, inr}
-use mathlib.Core.List.{List, ◌++◌, append-nil}
-use Prim.Native.Nat.{ℕ, ◌*◌, ◌≤◌, ◌<◌}
+use mathlib.Core.List.{List, ◌∷◌, ◌++◌, append-nil}
+use Prim.Native.Nat.{ℕ, zero, suc, ◌+◌, ◌-◌, ◌*◌, ◌≤◌, ◌<◌}
 use native.Mathlib.Nat.{le_refl, zero-add}
 use native.Mathlib.Omega.{arith}
-use lib.ListN.{length, take, drop, length-take}
+use Rattle.std.proofs.Common.{get_or-take, get_or-drop}
+use lib.ListN.{length, get_or, take, drop, length-take, length-drop}
 use lib.Seq.{take_all, take-append_seam}
 use borrow.Author.Tests.{lt-ltb, le-ltb}
+use Rattle.std.specs.Borrow.{MutBor}
 use Rattle.plan.specs.Plan.{Plan, width, cells}
 use Rattle.plan.specs.Layout.{plan_of, most_bytes}
 use Rattle.plan.specs.Refusal.{Accepted}
@@ -18,14 +20,40 @@ use Rattle.rounds.specs.Meaning.{IsSpent, serving_limit, Meaning}
 use Rattle.rounds.specs.AfterCheck.{AfterCheck}
 use Rattle.rounds.proofs.Meanings.{refused_means}
 use Rattle.rounds.proofs.Checking.{refuses_or_runs}
+use Rattle.text.specs.Decimal.{decimal}
 use Rattle.text.specs.Joined.{joined}
-use Rattle.text.specs.Buffer.{TextFits, TextPut}
-use Rattle.text.proofs.Puts.{sets_start, put_append, room_second}
-use Rattle.report.specs.Text.{first_line, point_line, is_refused, text_of}
+use Rattle.text.specs.declared.buffer.TextBuffer.{TextBuffer}
+use Rattle.text.specs.Buffer.{HasRoom, IsEmptyIn, Puts}
+use Rattle.text.proofs.Puts.{Written, sets_start, puts_append, room_second}
+use Rattle.report.specs.Text.{cell_text, first_line, point_line, is_refused, text_of}
 use Rattle.report.specs.Printed.{program_outcome, program_table, printed, overlaid}
 use Rattle.report.specs.AfterReport.{AfterReport}
 use Rattle.report.specs.Printable.{Printable}
 use Rattle.report.proofs.Lengths.{run_long, printed_length}
+
+-- ---- the cells of a point as a part of the table
+joined_same : (f g : ℕ → List ℕ) (n : ℕ) → ((i : ℕ) → i < n → f i ≡ g i) → joined f n ≡ joined g n
+unfolding joined
+joined_same f g zero h = refl
+joined_same f g (suc n) h = rw (joined_same f g n (λ i k. h i (omega arith)), h n (omega arith)) refl
+
+pub cell_first : (T : List ℕ) (i : ℕ) → cell_text T 0 i ≡ 32 ∷ decimal (get_or T i 0)
+unfolding cell_text
+cell_first T i = ap (λ k. 32 ∷ decimal (get_or T k 0)) (zero-add i)
+
+module _ (T : List ℕ) (start width : ℕ) (within : start + width ≤ length T) where
+  abbrev part : List ℕ
+  part = take (start + width - start) (drop start T)
+
+  part_length : length part ≡ width
+  part_length = omega (arith, length-take (start + width - start) (drop start T), length-drop start T)
+
+  part_text : (i : ℕ) → i < width → cell_text part 0 i ≡ cell_text T start i
+  unfolding cell_text
+  part_text i h = cell_first part i ∙ ap (λ n. 32 ∷ decimal n) (get_or-take (start + width - start) (drop start T) i 0 (omega arith) ∙ get_or-drop start T i 0)
+
+  pub cells_joined : joined (cell_text part 0) (length part) ≡ joined (cell_text T start) width
+  cells_joined = rw part_length (joined_same (cell_text part 0) (cell_text T start) width part_text)
 
 -- ---- the lines of a text
 pub text_refused : (o : Outcome) (P : Plan) (T : List ℕ) → is_refused o ≡ true → text_of o P T ≡ first_line o
@@ -38,20 +66,20 @@ module _ (bs : List ℕ) (o : Outcome) (T : List ℕ) (e : is_refused o ≡ fals
   unfolding text_of
   text_lines = rw (e, ew, en) refl
 
-  pub lines_asked : {next : ℕ} {out after : List ℕ} → Printable bs o T → TextPut (first_line o) 0 out next after → (n * w ≤ length T) × TextFits next (joined (point_line T w) n)
+  pub lines_asked : {a b : TextBuffer} → Printable bs o T a → Puts (first_line o) a b → (n * w ≤ length T) × HasRoom (joined (point_line T w) n) b
   lines_asked p q = (rw (ew, en) (p.accepted e).1, room_second _ _ (rw text_lines at p.room) q)
 
-  pub lines_put : {next end : ℕ} {out middle after : List ℕ} → TextPut (first_line o) 0 out next middle → TextPut (joined (point_line T w) n) next middle end after → TextPut (text_of o (plan_of bs) T) 0 out end after
-  lines_put p q = rw text_lines (put_append p q)
+  pub lines_put : {a b c : TextBuffer} → Puts (first_line o) a b → Puts (joined (point_line T w) n) b c → Puts (text_of o (plan_of bs) T) a c
+  lines_put p q = rw text_lines (puts_append p q)
 
 -- ---- the whole
 module _ (bs F G : List ℕ) where
   abbrev Reported : ℕ → List ℕ → List ℕ → List ℕ → List ℕ → Type 0
   Reported r out after F' G' = AfterReport bs (record { entry = F; exit = F' }) (record { entry = G; exit = G' }) (record { entry = out; exit = after }) r
 
-  whole : {r : ℕ} {out after F' G' : List ℕ} → TextPut (printed bs F G) 0 out r after → F' ≡ program_table bs F G F → G' ≡ program_table bs F G G → (IsSpent (program_outcome bs F G) → ⊥) → Meaning (plan_of bs) serving_limit (program_outcome bs F G) F' G' → Reported r out after F' G'
+  whole : {r : ℕ} {out after F' G' : List ℕ} → Written (printed bs F G) out r after → F' ≡ program_table bs F G F → G' ≡ program_table bs F G G → (IsSpent (program_outcome bs F G) → ⊥) → Meaning (plan_of bs) serving_limit (program_outcome bs F G) F' G' → Reported r out after F' G'
   unfolding overlaid
-  whole {r} {out} {after} p f g s m = record { length_is = p.next_is ∙ zero-add _; output_is = p.after_is ∙ sets_start (printed bs F G) out; first_is = f; second_is = g; never_spent = s; means = m }
+  whole {r} {out} {after} p f g s m = record { length_is = p.length_is; output_is = p.out_is ∙ sets_start (printed bs F G) out; first_is = f; second_is = g; never_spent = s; means = m }
 
   -- ---- over 832 bytes
   module _ (h : most_bytes < length bs) where
@@ -67,7 +95,7 @@ module _ (bs F G : List ℕ) where
     unfolding program_outcome
     long_outcome = rw (lt-ltb most_bytes (length bs) h) refl
 
-    pub long_reported : {r : ℕ} {out after : List ℕ} → TextPut (first_line (refused 1)) 0 out r after → Reported r out after F G
+    pub long_reported : {r : ℕ} {out after : List ℕ} → Written (first_line (refused 1)) out r after → Reported r out after F G
     long_reported p = whole (rw long_text p) (sym (long_table F)) (sym (long_table G)) (λ s. rw long_outcome at s) (rw long_outcome (refused_means (plan_of bs) serving_limit 1 F G))
 
   -- ---- at most 832: the check answered o and left F' and G'
@@ -91,10 +119,10 @@ module _ (bs F G : List ℕ) where
         go (inl (n, q, j)) = absurd (true≢false (sym (ap is_refused (k.outcome_is ∙ q)) ∙ e))
         go (inr (a, f, g)) = (a, subst⁻¹ (λ (L : List ℕ). cells (plan_of bs) ≤ length L) k.first_is (run_long bs F G serving_limit a f g))
 
-    pub short_printable : Printable bs o F'
-    short_printable = record { accepted = accepted_then; room = record { room = rw (← short_text) (omega (arith, printed_length bs F G)) } }
+    pub short_printable : {out : MutBor (List ℕ)} {b : TextBuffer} → IsEmptyIn out b → Printable bs o F' b
+    short_printable e = record { accepted = accepted_then; room = record { room = rw (← short_text) (omega (arith, e.length_is, printed_length bs F G)) } }
 
-    pub short_reported : {r : ℕ} {out after : List ℕ} → TextPut (text_of o (plan_of bs) F') 0 out r after → Reported r out after F' G'
+    pub short_reported : {r : ℕ} {out after : List ℕ} → Written (text_of o (plan_of bs) F') out r after → Reported r out after F' G'
     short_reported p = whole (rw short_text p) (k.first_is ∙ sym (short_table F)) (k.second_is ∙ sym (short_table G)) (λ s. k.serves (le_refl _) (rw short_outcome s)) (rw (← short_outcome) k.means)
 
 -- ---- read back: an output of 196,608 bytes holds the whole text

@@ -1,85 +1,80 @@
 // The lines of the text.
-ghost use Rattle.std.specs.Prelude.{◌≡◌, ◌∷◌, ◌+◌, ◌*◌, ◌≤◌, length};
-ghost use Rattle.rounds_making.specs.Outcomes.{outcome_of};
+ghost use Rattle.std.specs.Prelude.{◌∷◌, ◌+◌, ◌*◌, ◌≤◌, length};
+ghost use Rattle.plan.specs.Numbers.{number_of};
+ghost use Rattle.rounds_making.specs.Outcomes.{outcome_of, refused};
 ghost use Rattle.text.specs.Decimal.{decimal};
 ghost use Rattle.text.specs.Joined.{joined};
-ghost use Rattle.text.specs.Buffer.{TextFits, TextPut};
-ghost use Rattle.report.specs.Text.{numbered_line, first_line, cell_text, point_line, is_refused};
+ghost use Rattle.text.specs.Buffer.{HasRoom, Puts};
+ghost use Rattle.report.specs.Text.{numbered_line, first_line, cell_text, point_line};
 
+use plan::Refusal;
 use rounds::Answer;
-use text::{put_byte, put_bytes, put_decimal};
+use text::TextBuffer;
 
 // A word with the space after it, a number, and a newline.
-fn put_numbered(out: &mut [u8], at: usize, word: &[u8], n: u64) -> usize
-    requires { TextFits at (numbered_line word.now n) }
-    ensures { TextPut (numbered_line word.now n) at out.old result out.new }
+fn put_numbered(text: &mut TextBuffer, word: &[u8], n: u64)
+    requires { HasRoom (numbered_line word.now n) text.old }
+    ensures { Puts (numbered_line word.now n) text.old text.new }
 {
-    let number = put_bytes(out, at, word);
-    let end = put_decimal(out, number, n as usize);
-    put_byte(out, end, b'\n')
+    text.put_bytes(word);
+    text.put_decimal(n as usize);
+    text.put_byte(b'\n');
 }
 
-pub fn put_answer(out: &mut [u8], at: usize, answer: Answer) -> usize
-    requires { TextFits at (first_line (outcome_of answer)) }
-    ensures { TextPut (first_line (outcome_of answer)) at out.old result out.new }
+#[tactic(auto, unfolding(crate::specs::Text::first_line))]
+pub fn put_answer(text: &mut TextBuffer, answer: Answer)
+    requires { HasRoom (first_line (outcome_of answer)) text.old }
+    ensures { Puts (first_line (outcome_of answer)) text.old text.new }
 {
     match answer {
-        Answer::Kept(r) => put_numbered(out, at, b"kept ", r),
-        Answer::Broken(r) => put_numbered(out, at, b"broken ", r),
-        Answer::Spent(r) => put_numbered(out, at, b"spent ", r),
-        Answer::Refused(n) => put_numbered(out, at, b"refused ", n as u64),
+        Answer::Kept(r) => put_numbered(text, b"kept ", r),
+        Answer::Broken(r) => put_numbered(text, b"broken ", r),
+        Answer::Spent(r) => put_numbered(text, b"spent ", r),
     }
 }
 
-pub fn is_refused(answer: Answer) -> bool
-    ensures { result ≡ is_refused (outcome_of answer) }
+#[tactic(auto, unfolding(crate::specs::Text::first_line))]
+pub fn put_refusal(text: &mut TextBuffer, refusal: Refusal)
+    requires { HasRoom (first_line (refused (number_of refusal))) text.old }
+    ensures { Puts (first_line (refused (number_of refusal))) text.old text.new }
 {
-    match answer {
-        Answer::Kept(_) => false,
-        Answer::Broken(_) => false,
-        Answer::Spent(_) => false,
-        Answer::Refused(_) => true,
-    }
+    put_numbered(text, b"refused ", u64::from(u32::from(refusal)));
 }
 
 // One space, and a cell.
-fn put_cell(out: &mut [u8], at: usize, cell: u32) -> usize
-    requires { TextFits at (32 ∷ decimal cell) }
-    ensures { TextPut (32 ∷ decimal cell) at out.old result out.new }
+fn put_cell(text: &mut TextBuffer, cell: u32)
+    requires { HasRoom (32 ∷ decimal cell) text.old }
+    ensures { Puts (32 ∷ decimal cell) text.old text.new }
 {
-    let next = put_byte(out, at, b' ');
-    put_decimal(out, next, cell as usize)
+    text.put_byte(b' ');
+    text.put_decimal(cell as usize);
 }
 
-// The cells of the point whose first is at start.
-fn put_cells(out: &mut [u8], at: usize, table: &[u32], start: usize, width: usize) -> usize
-    requires { (start + width ≤ length table.now) × TextFits at (joined (cell_text table.now start) width) }
-    ensures { TextPut (joined (cell_text table.now start) width) at out.old result out.new }
+fn put_cells(text: &mut TextBuffer, cells: &[u32])
+    requires { HasRoom (joined (cell_text cells.now 0) (length cells.now)) text.old }
+    ensures { Puts (joined (cell_text cells.now 0) (length cells.now)) text.old text.new }
 {
-    let mut next = at;
-    for c in 0..width {
-        next = put_cell(out, next, table[start + c]);
+    for &cell in cells {
+        put_cell(text, cell);
     }
-    next
 }
 
 // A point's number, its cells, and a newline.
-fn put_point(out: &mut [u8], at: usize, table: &[u32], width: usize, x: usize) -> usize
-    requires { (x * width + width ≤ length table.now) × TextFits at (point_line table.now width x) }
-    ensures { TextPut (point_line table.now width x) at out.old result out.new }
+fn put_point(text: &mut TextBuffer, table: &[u32], width: usize, x: usize)
+    requires { (x * width + width ≤ length table.now) × HasRoom (point_line table.now width x) text.old }
+    ensures { Puts (point_line table.now width x) text.old text.new }
 {
-    let cells = put_decimal(out, at, x);
-    let end = put_cells(out, cells, table, x * width, width);
-    put_byte(out, end, b'\n')
+    text.put_decimal(x);
+    let start = x * width;
+    put_cells(text, &table[start..start + width]);
+    text.put_byte(b'\n');
 }
 
-pub fn put_points(out: &mut [u8], at: usize, table: &[u32], width: usize, points: usize) -> usize
-    requires { (points * width ≤ length table.now) × TextFits at (joined (point_line table.now width) points) }
-    ensures { TextPut (joined (point_line table.now width) points) at out.old result out.new }
+pub fn put_points(text: &mut TextBuffer, table: &[u32], width: usize, points: usize)
+    requires { (points * width ≤ length table.now) × HasRoom (joined (point_line table.now width) points) text.old }
+    ensures { Puts (joined (point_line table.now width) points) text.old text.new }
 {
-    let mut next = at;
     for x in 0..points {
-        next = put_point(out, next, table, width, x);
+        put_point(text, table, width, x);
     }
-    next
 }

@@ -3,12 +3,15 @@ use mathlib.Core.Path.{◌≡◌, refl, ◌∙◌}
 use mathlib.Core.Bool.{true, false}
 use mathlib.Core.List.{List, ◌++◌}
 use Prim.Native.Nat.{ℕ, ◌≤◌, ◌<◌}
+use native.Mathlib.Omega.{arith}
 use lib.Dec.{eqb}
 use lib.ListN.{length, drop}
 use borrow.Author.Tests.{lt-ltb, le-ltb, eq-eqb, ne_eqb}
 use Rattle.plan.specs.Plan.{Plan, cells}
 use Rattle.plan.specs.Layout.{plan_of}
+use Rattle.plan.specs.Numbers.{number_of}
 use Rattle.plan.specs.Refusal.{Accepted, refusal}
+use Rattle.plan.specs.declared.refusal.Refusal.{Refusal}
 use Rattle.rounds_making.specs.Rounds.{zeros}
 use Rattle.rounds_making.specs.Outcomes.{refused, run_outcome, run_table}
 use Rattle.rounds.specs.CheckOutcomes.{is_too_short, check_outcome, check_table}
@@ -45,6 +48,10 @@ module _ (bs F G : List ℕ) (limit : ℕ) where
     pub short_table : (L : List ℕ) → L ≡ check_table bs F G limit L
     unfolding check_table
     short_table L = rw (eq-eqb (refusal bs) 0 a, h) refl
+
+-- no refusal has the number 0
+pub number_some : (r : Refusal) → number_of r ≡ 0 → ⊥
+number_some r e = grind arith
 
 pub short_first : (P : Plan) (F G : List ℕ) → length F < cells P → is_too_short P F G ≡ true
 short_first P F G h = rw (lt-ltb (length F) (cells P) h) refl

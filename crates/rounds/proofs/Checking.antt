@@ -28,7 +28,7 @@ use Rattle.rounds.specs.CheckOutcomes.{check_outcome, check_table}
 use Rattle.rounds.specs.Meaning.{Meaning}
 use Rattle.rounds.specs.AfterCheck.{AfterCheck}
 use Rattle.rounds.specs.FromZeros.{ZerosLent, RanFromZeros}
-pub use Rattle.rounds.proofs.CheckCases.{check_runs, check_leaves, refused_outcome, refused_table, short_outcome, short_table, short_first, short_second}
+pub use Rattle.rounds.proofs.CheckCases.{check_runs, check_leaves, refused_outcome, refused_table, short_outcome, short_table, short_first, short_second, number_some}
 use Rattle.rounds.proofs.Small.{table_high}
 use Rattle.rounds.proofs.Meanings.{refused_means, run_means_bytes, decided}
 use Rattle.rounds.proofs.Unlabelled.{unlabelled_check}

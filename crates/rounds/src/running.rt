@@ -7,13 +7,13 @@ ghost use Rattle.plan.specs.Horizons.{plan_with};
 ghost use Rattle.plan.specs.Refusal.{Accepted};
 ghost use Rattle.rounds_tables.specs.Ready.{Ready};
 ghost use Rattle.rounds_making.specs.Runs.{RoomFrom, Ran};
-ghost use Rattle.rounds_making.specs.Outcomes.{outcome_of};
+ghost use Rattle.rounds_making.specs.Outcomes.{outcome_of, outcome_of_check};
 ghost use Rattle.rounds.specs.FromZeros.{ZerosLent, RanFromZeros};
 ghost use Rattle.rounds.specs.Meaning.{enough_rounds};
 ghost use Rattle.rounds.specs.AfterCheck.{AfterCheck};
 
 use crate::Answer;
-use plan::{cells, horizon as horizon_of, largest, plain_marks};
+use plan::{Refusal, cells, horizon as horizon_of, largest, plain_marks};
 use plan_refusal::refusal;
 use rounds_making::rounds_to;
 use rounds_tables::clear_cells;
@@ -63,20 +63,19 @@ pub fn enough_rounds(plan: &[u8]) -> u64
     cells(plan) as u64 * (horizon_of(plan) + largest(plan) + 1) + 1
 }
 
-// Kept or broken with R, spent with the limit, or refused with the refusal's number; refused, the tables are untouched.
-pub fn check(plan: &[u8], first: &mut [u32], second: &mut [u32], limit: u64) -> Answer
-    ensures { AfterCheck plan.now limit (moments first) (moments second) (outcome_of result) }
+// What rounds from zeros end with; refused, the tables are untouched.
+pub fn check(
+    plan: &[u8],
+    first: &mut [u32],
+    second: &mut [u32],
+    limit: u64,
+) -> Result<Answer, Refusal>
+    ensures { AfterCheck plan.now limit (moments first) (moments second) (outcome_of_check result) }
 {
-    let number = refusal(plan);
-    if number != 0 {
-        return Answer::Refused(number);
-    }
+    refusal(plan)?;
     let end = cells(plan);
-    if first.len() < end {
-        return Answer::Refused(6);
+    if first.len() < end || second.len() < end {
+        return Err(Refusal::ShortTable);
     }
-    if second.len() < end {
-        return Answer::Refused(6);
-    }
-    run_from_zeros(plan, horizon_of(plan), first, second, limit)
+    Ok(run_from_zeros(plan, horizon_of(plan), first, second, limit))
 }

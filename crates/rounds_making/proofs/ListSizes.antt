@@ -2,7 +2,7 @@
 use mathlib.Core.Path.{◌≡◌, refl, sym, ap, ◌∙◌}
 use mathlib.Core.Bool.{Bool, true, false, not}
 use mathlib.Core.List.{List}
-use Prim.Native.Nat.{ℕ, ◌+◌, ◌-◌, ◌*◌, ◌%◌, ◌^◌, ◌≤◌, ◌<◌}
+use Prim.Native.Nat.{ℕ, ◌+◌, ◌-◌, ◌*◌, ◌^◌, ◌≤◌, ◌<◌}
 use native.Mathlib.Nat.{one-le-mul, mul_assoc}
 use native.Mathlib.Decide.{dec_lt}
 use native.Mathlib.Omega.{arith}
@@ -15,7 +15,6 @@ use Rattle.plan.specs.Horizons.{plan_with}
 use Rattle.plan.specs.Refusal.{Accepted}
 use Rattle.plan.proofs.LabelLaws.{four_pos}
 use Rattle.plan.proofs.Ranges.{accepted_bounded}
-use Rattle.plan.proofs.Widths.{shift}
 use Rattle.rounds_points.proofs.PointSets.{all_below, in_all}
 use Rattle.rounds_tables.specs.Ready.{Ready}
 use Rattle.rounds_tables.specs.Known.{AllListed}
@@ -35,18 +34,12 @@ module _ (bs F L C : List ℕ) (z : Bool) (lent : FirstLent bs F L C z) where
 
 -- of any table, with the code's numbers n and w: the set has all points
 module _ (bs : List ℕ) (accepted : Accepted bs) (n : ℕ) (en : n ≡ (plan_of bs).points) where
-  pub points_few : n < 64
+  pub points_few : n ≤ 32
   points_few = omega (arith, (accepted_bounded bs accepted).points_in)
 
-  shifted : 1 * 2 ^ n % 18446744073709551616 ≡ 2 ^ (plan_of bs).points
-  shifted = shift n (plan_of bs).points (rw en at points_few) en
-
-  pub shift_positive : 1 ≤ 1 * 2 ^ n % 18446744073709551616
-  shift_positive = rw shifted (pow_pos (plan_of bs).points)
-
   module _ (F L C : List ℕ) (w : ℕ) (ew : w ≡ width (plan_of bs)) where
-    pub lines_first : AllListed n w F L C → FirstLists (plan_of bs) F L C (1 * 2 ^ n % 18446744073709551616 - 1)
-    lines_first listed = rw shifted (record {
+    pub lines_first : AllListed n w F L C → FirstLists (plan_of bs) F L C (2 ^ n - 1)
+    lines_first listed = rw en (record {
       all_listed = rw (en, ew) at listed;
       lined_in = record { below = all_below (plan_of bs).points; has = λ y h k. in_all (plan_of bs).points y h };
     })

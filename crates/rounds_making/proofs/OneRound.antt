@@ -6,7 +6,7 @@ use Prim.Native.Nat.{ℕ, ◌+◌, ◌*◌, ◌/◌, ◌%◌, ◌^◌, ◌≤◌
 use native.Mathlib.Nat.{le_trans, mul-le-mul_right, suc-mul, mod-lt, div-add-mod', div-lt_iff_lt-mul, one-le-mul}
 use native.Mathlib.Decide.{ℕ_discrete, dec_le}
 use native.Mathlib.Omega.{arith}
-use lib.Bits.{bit_or, bit_and}
+use lib.Bits.{bit_or}
 use lib.Pow.{pow_pos, pow-lt}
 use lib.Dec.{T as Is, eqb}
 use lib.ListN.{length, get_or, take}
@@ -16,7 +16,6 @@ use Rattle.plan.specs.LinkSet.{contains}
 use Rattle.plan.specs.Plan.{Plan, width, cells}
 use Rattle.plan.proofs.Ranges.{WellFormed}
 use Rattle.plan.proofs.LabelLaws.{four_pos}
-use Rattle.plan.proofs.Truth.{is_true}
 use Rattle.rules.proofs.FirstAlarm.{width_le}
 use Rattle.rules.proofs.Next.{IsNext, next_is}
 use Rattle.rules_fill.specs.Shapes.{is_line}
@@ -24,7 +23,7 @@ use Rattle.rules_fill.specs.Parts.{next_cells, laid_over}
 use Rattle.rules_refill.specs.Lists.{Raised, PointLists}
 use Rattle.rules_listed.proofs.Counting.{count_alike}
 use Rattle.rounds_points.specs.PointSets.{In, Concerned}
-use Rattle.rounds_points.proofs.PointSets.{in_left, in_right, union_below, is_empty, none_in, own_bit, zero_in, zero_out}
+use Rattle.rounds_points.proofs.PointSets.{in_left, in_right, union_below, is_empty, none_in, own_bit}
 use Rattle.rounds_tables.specs.Cells.{same}
 use Rattle.rounds_tables.specs.Ready.{SameOutside}
 use Rattle.rounds_tables.specs.Known.{RoundNoted, RaisedFrom, SettleLent, AfterSettle, LinedBut, LinedIn, OverLent, NoneRaisedAbove, Known}
@@ -219,28 +218,14 @@ module _ (P : Plan) (wf : WellFormed P) (F G G' : List ℕ) (long : cells P ≤ 
 
 -- ---- the tests that the code makes, in turn
 module _ (waits : Bool) (changed : ℕ) (agree : Bool) where
-  pub stops_waiting : waits ≡ true → true ≡ stops_by waits changed agree
+  -- the first two tests say v
+  pub stops_code : (v r : Bool) → v ≡ waits || contains changed 0 → r ≡ v || (eqb changed 0 && agree) → r ≡ stops_by waits changed agree
   unfolding stops_by
-  stops_waiting e = rw e
-
-  pub stops_first : waits ≡ false → (bit_and changed 1 ≡ 0 → ⊥) → true ≡ stops_by waits changed agree
-  unfolding stops_by
-  stops_first e h = rw (e, is_true (contains changed 0) (zero_in changed h))
-
-  not_first : bit_and changed 1 ≡ 0 → contains changed 0 ≡ false
-  not_first h = go (contains changed 0) refl
+  stops_code v r e f = f ∙ ap (λ (b : Bool). b || (eqb changed 0 && agree)) e ∙ grouped waits (contains changed 0) (eqb changed 0 && agree)
     where
-      go : (b : Bool) → contains changed 0 ≡ b → b ≡ false
-      go false q = refl
-      go true q = absurd (zero_out changed h (subst Is (sym q) tt))
-
-  pub stops_not : waits ≡ false → bit_and changed 1 ≡ 0 → (changed ≡ 0 → ⊥) → false ≡ stops_by waits changed agree
-  unfolding stops_by
-  stops_not e h k = rw (e, not_first h, ne_eqb changed 0 k)
-
-  pub stops_walk : (r : Bool) → waits ≡ false → bit_and changed 1 ≡ 0 → changed ≡ 0 → r ≡ agree → r ≡ stops_by waits changed agree
-  unfolding stops_by
-  stops_walk r e h k a = rw (e, not_first h, eq-eqb changed 0 k) a
+      grouped : (a b c : Bool) → (a || b) || c ≡ a || (b || c)
+      grouped true b c = refl
+      grouped false b c = refl
 
 -- ---- the points to fill, with the first alarm where it is asked for
 module _ (n : ℕ) (sets : List ℕ) (changed lined givers found : ℕ) (some : 0 < n) (concerned : Concerned n sets changed lined givers found) (over : Bool) where

@@ -20,11 +20,11 @@ use Rattle.rules.proofs.FirstAlarm.{width_le}
 use Rattle.rules_fill.specs.Shapes.{is_line}
 use Rattle.rules_fill.specs.Parts.{next_cells, laid_over}
 use Rattle.rules_fill.specs.Filling.{FillNumbers}
-use Rattle.rules_rows.specs.RowsRead.{RowsRead}
+use Rattle.rules_rows.specs.declared.rows.Rows.{Rows}
 use Rattle.rounds_points.specs.PointSets.{In, Sets, Dependents, Givers, Concerned}
 use Rattle.rounds_points.proofs.PointSets.{in_all, all_below}
 use Rattle.rounds_tables.specs.Cells.{same, any_above}
-use Rattle.rounds_tables.specs.Ready.{Ready, NoNotes, SameOutside, RoundLent}
+use Rattle.rounds_tables.specs.Ready.{Ready, NoNotes, SameOutside, RoundLent, Unaffected}
 use Rattle.rounds_tables.specs.Known.{RoundNoted, SettleLent, AfterSettle, LinedBut, LinedIn, OverLent, NoneRaisedAbove, AllListed, Known}
 use Rattle.rounds_tables.proofs.RoundLaws.{next_length}
 use Rattle.rounds_tables.proofs.Covering.{covered_first}
@@ -90,25 +90,17 @@ module _ (bs M : List ℕ) (h : ℕ) (F₀ G₀ L₀ C₀ N₀ : List ℕ) (read
 
   module _ (r : ℕ) (F G L C N D : List ℕ) (last : Round) (at : Rounding (plan_with bs h) F₀ G₀ L₀ C₀ N₀ r F G L C N D last) where
     -- what the round is lent
-    pub rounding_ready : (rows sets : List ℕ) (w mask givers set n : ℕ) → RowsRead (plan_of bs) rows → FillNumbers bs w mask → Dependents (plan_of bs) sets → Givers (plan_of bs) givers → n ≡ (plan_of bs).points → Concerned n sets last.changed last.lined givers set
-        → (last.over ≡ true → In set 0) → RoundReady bs M h F G L C N D rows w mask set last
-    rounding_ready rows sets w mask givers set n rows_are numbers dependents giving en among first_in = record {
+    pub rounding_ready : RoundReady bs M h F G L C N D last
+    rounding_ready = record {
       ready = ready_on bs M h F₀ G₀ F G ready at.held.first_length at.held.second_length;
       bound = held_room (plan_with bs h) wf F₀ ready.long_first G₀ r F G at.held room;
       same_cells = held_same (plan_with bs h) wf F₀ ready.long_first G₀ r F G at.held;
-      rows_are = rows_are;
-      numbers = numbers;
       known = at.known;
       lists_long = rw at.lists_length lent.lists_long;
       notes_long = rw at.notes_length lent.notes_long;
       no_notes = at.no_notes;
-      set_below = concerned.below;
-      unaffected = unaffected (plan_with bs h) wf (take (cells (plan_of bs)) F) (length-take-le (cells (plan_of bs)) F (rw at.held.first_length ready.long_first)) L C sets last.changed last.lined givers set set last.over at.known (record { are_sets = dependents.are_sets; by_edge = dependents.by_edge; by_activation = dependents.by_activation; by_finish = dependents.by_finish }) (record { activation_in = giving.activation_in; observer_in = giving.observer_in }) concerned (λ x i. i) first_in;
       waits_is = at.waits_is;
     }
-      where
-        concerned : Concerned (plan_of bs).points sets last.changed last.lined givers set
-        concerned = rw en at among
 
     -- and what is known after one that does not stop
     module _ (F' G' L' C' N' D' : List ℕ) (made : Round) (t : RoundMade (plan_with bs h) (record { entry = F; exit = F' }) (record { entry = G; exit = G' }) L' C' D' made) where
@@ -155,21 +147,51 @@ module _ (bs M : List ℕ) (h : ℕ) (F G : List ℕ) (ready : Ready bs M h F G)
   }
 
 -- ---- one round, call by call
-module _ {bs M : List ℕ} {h : ℕ} {F G L C N D rows : List ℕ} {w mask set : ℕ} {last : Round} (r : RoundReady bs M h F G L C N D rows w mask set last) where
+-- with the plan's rows, and a set of points to fill: the others keep their cells
+pub record Filling (bs M : List ℕ) (h : ℕ) (F G L C N D : List ℕ) (rows : Rows) (w mask set : ℕ) (last : Round) : Type 0 where
+  pub of : RoundReady bs M h F G L C N D last
+  pub rows_are : rows.plan.now ≡ bs
+  pub numbers : FillNumbers bs w mask
+  pub set_below : set < 2 ^ (plan_of bs).points
+  pub unaffected : Unaffected (plan_with bs h) (take (cells (plan_of bs)) F) set
+
+-- what finding the points to fill is lent; the code's number n is the points
+pub to_fill_lends : {bs M : List ℕ} {h : ℕ} {F G L C N D : List ℕ} {last : Round} → RoundReady bs M h F G L C N D last → (n : ℕ) → n ≡ (plan_of bs).points → (last.changed < 2 ^ n) × (last.lined < 2 ^ n) × (0 < n)
+to_fill_lends {bs} {M} {h} r n e = let two = (with_well_formed bs r.ready.accepted h r.ready.horizon_far).two in
+    (rw e r.known.changed_in.below, rw e r.known.lined_in.below, omega arith)
+
+-- the points that a round concerns are such a set
+pub filling : {bs M : List ℕ} {h : ℕ} {F G L C N D : List ℕ} {last : Round} → RoundReady bs M h F G L C N D last → {rows : Rows} {sets : List ℕ} {w mask givers n : ℕ} (set : ℕ) → rows.plan.now ≡ bs → FillNumbers bs w mask → Dependents (plan_of bs) sets → Givers (plan_of bs) givers
+    → n ≡ (plan_of bs).points → Concerned n sets last.changed last.lined givers set × (last.over ≡ true → In set 0) → Filling bs M h F G L C N D rows w mask set last
+filling {bs} {M} {h} {F} {G} {L} {C} {N} {D} {last} r {rows} {sets} {w} {mask} {givers} {n} set rows_are numbers dependents giving en among = record {
+  of = r;
+  rows_are = rows_are;
+  numbers = numbers;
+  set_below = concerned.below;
+  unaffected = unaffected (plan_with bs h) (with_well_formed bs r.ready.accepted h r.ready.horizon_far) (take (cells (plan_of bs)) F) (length-take-le (cells (plan_of bs)) F r.ready.long_first) L C sets last.changed last.lined givers set set last.over r.known (record { are_sets = dependents.are_sets; by_edge = dependents.by_edge; by_activation = dependents.by_activation; by_finish = dependents.by_finish }) (record { activation_in = giving.activation_in; observer_in = giving.observer_in }) concerned (λ x i. i) among.1;
+}
+  where
+    concerned : Concerned (plan_of bs).points sets last.changed last.lined givers set
+    concerned = rw en at among.0
+
+module _ {bs M : List ℕ} {h : ℕ} {F G L C N D : List ℕ} {rows : Rows} {w mask set : ℕ} {last : Round} (q : Filling bs M h F G L C N D rows w mask set last) where
+  r : RoundReady bs M h F G L C N D last
+  r = q.of
+
   -- what filling the points is lent
   pub fill_lends : RoundLent bs M h F G L C rows N D w mask set last.over
   fill_lends = record {
     ready = r.ready;
     bound = r.bound;
     same_cells = r.same_cells;
-    rows_are = r.rows_are;
-    numbers = r.numbers;
+    rows_are = q.rows_are;
+    numbers = q.numbers;
     lists_are = r.known.lists_are;
     none_over = r.known.none_over;
     notes_long = r.notes_long;
     no_notes = r.no_notes;
-    set_below = r.set_below;
-    unaffected = r.unaffected;
+    set_below = q.set_below;
+    unaffected = q.unaffected;
   }
 
   well : WellFormed (plan_with bs h)
@@ -187,12 +209,12 @@ module _ {bs M : List ℕ} {h : ℕ} {F G L C N D rows : List ℕ} {w mask set :
     settle_lends ln =
         let b = accepted_bounded bs r.ready.accepted in
         let narrow = width_small (plan_of bs).links (plan_of bs).propositions b.links_in b.propositions_in in
-        rw (en, r.numbers.width_is) (settle_lent (plan_with bs h) well F G G' r.ready.long_first made long' L C last.changed last.lined last.over r.known N' D' set few (omega (arith, narrow)) r.lists_long (rw ln r.notes_long) r.set_below (rw r.numbers.width_is at noted))
+        rw (en, q.numbers.width_is) (settle_lent (plan_with bs h) well F G G' r.ready.long_first made long' L C last.changed last.lined last.over r.known N' D' set few (omega (arith, narrow)) r.lists_long (rw ln r.notes_long) q.set_below (rw q.numbers.width_is at noted))
 
     -- and the copy of noted cells
     module _ (F' D'' L' C' : List ℕ) (changed : ℕ) (settled : AfterSettle n w G' F F' D'' L' C' changed) (lc : length C' ≡ length C) where
       after : AfterSettle (plan_of bs).points (width (plan_of bs)) G' F F' D'' L' C' changed
-      after = rw (en, r.numbers.width_is) at settled
+      after = rw (en, q.numbers.width_is) at settled
 
       counts_long : 2 * (plan_of bs).points ≤ length C'
       counts_long = rw lc r.known.lists_are.counts_long
@@ -201,19 +223,19 @@ module _ {bs M : List ℕ} {h : ℕ} {F G L C N D rows : List ℕ} {w mask set :
       lined_lends = rw en (lined_but (plan_with bs h) well F G G' r.ready.long_first made long' L C last.changed last.lined last.over r.known F' D'' L' C' changed after few counts_long)
 
       pub over_lends : OverLent n w G' L' C' changed
-      over_lends = rw (en, r.numbers.width_is) (over_lent (plan_with bs h) well F G G' r.ready.long_first made long' L C last.changed last.lined last.over r.known F' D'' L' C' changed after few counts_long)
+      over_lends = rw (en, q.numbers.width_is) (over_lent (plan_with bs h) well F G G' r.ready.long_first made long' L C last.changed last.lined last.over r.known F' D'' L' C' changed after few counts_long)
 
       pub stops_lends : length F' ≡ length F → ((n ≤ 32) × (n * w ≤ length F') × (n * w ≤ length G')) × SameOutside n w F' G' set
       stops_lends lf = (
-        (rw en few, rw (en, r.numbers.width_is, lf) r.ready.long_first, rw (en, r.numbers.width_is) long'),
-        rw (en, r.numbers.width_is) (same_outside (plan_with bs h) well F G G' r.ready.long_first made long' L C last.changed last.lined last.over r.known F' D'' L' C' changed after set),
+        (rw en few, rw (en, q.numbers.width_is, lf) r.ready.long_first, rw (en, q.numbers.width_is) long'),
+        rw (en, q.numbers.width_is) (same_outside (plan_with bs h) well F G G' r.ready.long_first made long' L C last.changed last.lined last.over r.known F' D'' L' C' changed after set),
       )
 
       pub round_ends : (made' : Round) → made'.changed ≡ changed → LinedIn n C' made'.lined → NoneRaisedAbove n w h G' L' C' changed made'.over → made'.stops ≡ stops_by last.stops changed (same (take (n * w) F') (take (n * w) G')) → length F' ≡ length F
           → RoundMade (plan_with bs h) (record { entry = F; exit = F' }) (record { entry = G; exit = G' }) L' C' D'' made'
       round_ends made' ec lines none stops lf =
           round_made (plan_with bs h) well F G G' r.ready.long_first made long' L C last r.known r.waits_is F' D'' L' C' made' (same (take ((plan_of bs).points * width (plan_of bs)) F') (take ((plan_of bs).points * width (plan_of bs)) G')) (rw ec after) counts_long (rw en at lines)
-          (rw ec (rw (en, r.numbers.width_is) at none)) refl (stops ∙ ap₂ (λ (c : ℕ) (b : Bool). stops_by last.stops c b) (sym ec) (ap (λ (m : ℕ). same (take m F') (take m G')) (ap₂ (λ (a b : ℕ). a * b) en r.numbers.width_is))) lf lg
+          (rw ec (rw (en, q.numbers.width_is) at none)) refl (stops ∙ ap₂ (λ (c : ℕ) (b : Bool). stops_by last.stops c b) (sym ec) (ap (λ (m : ℕ). same (take m F') (take m G')) (ap₂ (λ (a b : ℕ). a * b) en q.numbers.width_is))) lf lg
 
 -- ---- arrays of zeros
 zero_at : (y : ℕ) → y < 32 → ◌≡◌ {A = ℕ} (get_or (replicate 32 0) y 0) 0
@@ -224,7 +246,3 @@ no_sets n few = record { few = few; long = simp length-replicate (omega arith); 
 
 pub none_noted : (n : ℕ) → n ≤ 32 → NoNotes n (replicate 32 0)
 none_noted n few = record { long = simp length-replicate (omega arith); none = λ y h. zero_at y (omega arith) }
-
--- what finding the points to fill is lent; the code's number n is the points
-pub to_fill_lends : (P : Plan) (sets : List ℕ) (n changed lined : ℕ) → n ≡ P.points → Dependents P sets → changed < 2 ^ P.points → lined < 2 ^ P.points → 1 < P.points → Sets n sets × (changed < 2 ^ n) × (lined < 2 ^ n) × (0 < n)
-to_fill_lends P sets n changed lined e d c l two = (rw e d.are_sets, rw e c, rw e l, omega arith)

@@ -1,17 +1,15 @@
 -- For inner contracts only: one round after another, with what is known of the table between them. Nothing here is to be believed.
-use Rattle.std.specs.Prelude.{◌≡◌, Bool, true, ◌&&◌, ◌||◌, List, ℕ, ◌*◌, ◌^◌, ◌≤◌, ◌<◌, eqb, length, get_or, take}
+use Rattle.std.specs.Prelude.{◌≡◌, Bool, true, ◌&&◌, ◌||◌, List, ℕ, ◌*◌, ◌≤◌, ◌<◌, eqb, length, get_or, take}
 use Rattle.plan.specs.LinkSet.{contains}
 use Rattle.plan.specs.Moments.{Moments}
 use Rattle.plan.specs.Plan.{Plan, width, cells}
 use Rattle.plan.specs.Layout.{plan_of}
 use Rattle.plan.specs.Horizons.{plan_with}
 use Rattle.rules_fill.specs.Parts.{next_cells, AtMost, laid_over}
-use Rattle.rules_fill.specs.Filling.{FillNumbers}
-use Rattle.rules_rows.specs.RowsRead.{RowsRead}
 use Rattle.rules_refill.specs.Lists.{Lists}
 use Rattle.rules_refill.specs.Lent.{NoneOver}
 use Rattle.rounds_tables.specs.Cells.{same}
-use Rattle.rounds_tables.specs.Ready.{Ready, Unaffected, NoNotes}
+use Rattle.rounds_tables.specs.Ready.{Ready, NoNotes}
 use Rattle.rounds_tables.specs.Known.{Known, LinedIn, AllListed}
 use Rattle.rounds_making.specs.declared.making.Round.{Round}
 use Rattle.rounds_making.specs.Rounds.{first_alarm_waits}
@@ -20,20 +18,15 @@ use Rattle.rounds_making.specs.Rounds.{first_alarm_waits}
 unfoldable pub stops_by : Bool → ℕ → Bool → Bool
 stops_by waits changed agree = waits || (contains changed 0 || (eqb changed 0 && agree))
 
--- two tables with the same cells, the plan's rows, what is known of the table, room for what the round notes, the points to fill, and whether the first alarm
--- waits already
-pub record RoundReady (plan marks : List ℕ) (horizon : ℕ) (first second lists counts notes noted rows : List ℕ) (w mask set : ℕ) (last : Round) : Type 0 where
+-- two tables with the same cells, what is known of the table, room for what the round notes, and whether the first alarm waits already
+pub record RoundReady (plan marks : List ℕ) (horizon : ℕ) (first second lists counts notes noted : List ℕ) (last : Round) : Type 0 where
   pub ready : Ready plan marks horizon first second
   pub bound : AtMost 4000000000 (take (cells (plan_of plan)) first)
   pub same_cells : take (cells (plan_of plan)) second ≡ take (cells (plan_of plan)) first
-  pub rows_are : RowsRead (plan_of plan) rows
-  pub numbers : FillNumbers plan w mask
   pub known : Known (plan_with plan horizon) (take (cells (plan_of plan)) first) lists counts last.changed last.lined last.over
   pub lists_long : (2 * (plan_of plan).points) * width (plan_of plan) ≤ length lists
   pub notes_long : cells (plan_of plan) ≤ length notes
   pub no_notes : NoNotes (plan_of plan).points noted
-  pub set_below : set < 2 ^ (plan_of plan).points
-  pub unaffected : Unaffected (plan_with plan horizon) (take (cells (plan_of plan)) first) set
   pub waits_is : last.stops ≡ first_alarm_waits (plan_with plan horizon) (take (cells (plan_of plan)) first)
 
 -- one round from the cells of the first table left its table in the cells of both; whether it stops, and what is known of its table

@@ -1,9 +1,11 @@
 -- What rounds up to a limit end with: an answer, and the table of the last round (9).
-use Rattle.std.specs.Prelude.{Bool, true, false, List, ℕ}
+use Rattle.std.specs.Prelude.{Bool, true, false, List, ℕ, Result, Ok, Err}
 use Rattle.std.proofs.Math.Option.{Option, none, some}
+use Rattle.plan.specs.Numbers.{number_of}
 use Rattle.plan.specs.Plan.{Plan}
+use Rattle.plan.specs.declared.refusal.Refusal.{Refusal}
 use Rattle.rounds_making.specs.declared.Answer.{Answer}
-use Rattle.rounds_making.specs.declared.Answer.TheVariants.{Kept, Broken, Spent, Refused}
+use Rattle.rounds_making.specs.declared.Answer.TheVariants.{Kept, Broken, Spent}
 use Rattle.rounds_making.specs.Rounds.{table_from, first_alarm_waits, rounds_to}
 
 -- 9.2, 9.5: kept or broken with R, spent with the limit, or the number of a refusal
@@ -18,7 +20,11 @@ abbrev pub outcome_of : Answer → Outcome
 outcome_of (Kept r) = kept r
 outcome_of (Broken r) = broken r
 outcome_of (Spent r) = spent r
-outcome_of (Refused n) = refused n
+
+-- and where it can be refused
+abbrev pub outcome_of_check : Result Answer Refusal → Outcome
+outcome_of_check (Ok answer) = outcome_of answer
+outcome_of_check (Err refusal) = refused (number_of refusal)
 
 abbrev pub pick : Bool → Outcome → Outcome → Outcome
 pick true a b = a

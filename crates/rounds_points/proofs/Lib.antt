@@ -1,3 +1,4 @@
 pub mod PointSets
 pub mod Growing
 pub mod Gathering
+mod Folding

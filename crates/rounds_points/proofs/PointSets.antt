@@ -122,18 +122,6 @@ in_second s t y h = in_first t s y (rw (and_comm s t) at h)
 pub apart : (s t y : ℕ) → bit_and s t ≡ 0 → In s y → In t y → ⊥
 apart s t y e h k = none_in y (rw e at (in_both s t y h k))
 
--- point 0
-pub zero_in : (s : ℕ) → (bit_and s 1 ≡ 0 → ⊥) → In s 0
-zero_in s h =
-    let e : bit_and s 1 ≡ s % 2 = and_mask s 1 in
-    in_of s 0 (ap (λ (x : ℕ). x % 2) (div-one s) ∙ go (s % 2) (mod-lt s (lit< tt)) (λ z. h (e ∙ z)))
-  where
-    go : (b : ℕ) → b < 2 → (b ≡ 0 → ⊥) → b ≡ 1
-    go b l k = omega arith
-
-pub zero_out : (s : ℕ) → bit_and s 1 ≡ 0 → In s 0 → ⊥
-zero_out s e h = apart s 1 0 e h (own_bit 0)
-
 -- ---- all points below a bound
 pub in_all : (n y : ℕ) → y < n → In (2 ^ n - 1) y
 in_all n y h =
@@ -227,3 +215,14 @@ lowest_in (suc w) (suc k) s hw hs h = go (s % 2) refl (λ p q. lowest_in w k (s 
     go : (b : ℕ) → s % 2 ≡ b → (0 < s / 2 → s / 2 < 2 ^ k → In (s / 2) (count_trailing_zeros w (s / 2)) × (count_trailing_zeros w (s / 2) < k)) → In s (under b (count_trailing_zeros w (s / 2))) × (under b (count_trailing_zeros w (s / 2)) < suc k)
     go zero e below = let r = below (omega arith) (omega arith) in (half_in s _ r.0, omega arith)
     go (suc b) e below = (in_of s 0 (ap (λ (x : ℕ). x % 2) (div-one s) ∙ omega arith), omega arith)
+
+-- the shift in 64 bits that makes a point's bit
+pub shifted : (x : ℕ) → x < 64 → 1 * 2 ^ x % 2 ^ 64 ≡ 2 ^ x
+shifted x h = rw (one-mul (2 ^ x)) (mod-eq_of_lt (pow-lt h))
+
+-- the lowest point taken out of a number of 64 bits
+pub lowest_taken : (s : ℕ) → (s ≡ 0 → ⊥) → s < 2 ^ 64 → let x = count_trailing_zeros 64 s in let b = 1 * 2 ^ x % 2 ^ 64 in (b ≤ s) × In s x × (x < 64) × (s - b ≡ remove s x) × (s - b < s)
+lowest_taken s h l =
+    let x = count_trailing_zeros 64 s in
+    let r = lowest_in 64 64 s (omega arith) (omega arith) l in
+    rw (shifted x r.1) (own_le s x r.0, r.0, r.1, sym (taken s x r.0), rest_less s x r.0)

@@ -1,11 +1,15 @@
 -- For inner contracts only: sets of points, each a number with bit y for point y. Nothing here is to be believed.
-use Rattle.std.specs.Prelude.{List, ℕ, ◌^◌, ◌≤◌, ◌<◌, T as Is, length, get_or}
-use Rattle.plan.specs.LinkSet.{contains}
+use Rattle.std.specs.Prelude.{◌≡◌, List, Option, MatchOption, ℕ, ◌^◌, ◌≤◌, ◌<◌, T as Is, length, get_or}
+use Rattle.plan.specs.LinkSet.{contains, remove}
 use Rattle.plan.specs.Plan.{Plan}
 
 -- the point is in the set
 abbrev pub In : ℕ → ℕ → Type 0
 In set y = Is (contains set y)
+
+-- a call of `next` takes a point out of a set and leaves the rest; an empty set has none
+abbrev pub TakesPoint : ℕ → Option ℕ → ℕ → Type 0
+TakesPoint s r t = MatchOption r ((s ≡ 0) × (t ≡ 0)) (λ x. In s x × (x < 64) × (t ≡ remove s x) × (t < s))
 
 -- for each of n points a set of points below n
 pub record Sets (n : ℕ) (sets : List ℕ) : Type 0 where

@@ -5,4 +5,4 @@ mod concern;
 mod sets;
 
 pub use concern::{concerned, find_dependents, find_givers};
-pub use sets::{bit, has, lowest, without};
+pub use sets::{PointSet, Points};

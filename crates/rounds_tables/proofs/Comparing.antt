@@ -1,5 +1,5 @@
 -- Laws of the tests that end the rounds.
-use mathlib.Core.Path.{◌≡◌, refl}
+use mathlib.Core.Path.{◌≡◌, refl, ap}
 use mathlib.Core.Bool.{Bool, true, false, ◌&&◌, ◌||◌, true≢false, false≢true}
 use mathlib.Core.List.{List, [], ◌∷◌}
 use Prim.Native.Nat.{ℕ, zero, suc, ◌<◌}
@@ -7,6 +7,7 @@ use native.Mathlib.Omega.{arith}
 use lib.Dec.{ltb, eqb}
 use lib.ListN.{length, get_or}
 use borrow.Author.Tests.{ltb-true, ltb-false, eqb-true, eq-eqb}
+use Rattle.std.specs.List.{list_any}
 use Rattle.rounds_tables.specs.Cells.{same, any_above}
 
 pub same_eq : (A B : List ℕ) → same A B ≡ true → A ≡ B
@@ -42,3 +43,8 @@ some_above (x ∷ xs) e = go (some_above xs) (ltb 0 x) refl e
     go : (any_above xs ≡ true → (c : ℕ) × (c < length xs) × (0 < get_or xs c 0)) → (b : Bool) → ltb 0 x ≡ b → b || any_above xs ≡ true → (c : ℕ) × (c < suc (length xs)) × (0 < get_or (x ∷ xs) c 0)
     go r true q e = (0, omega arith, ltb-true 0 x q)
     go r false q e = let t = r e in (suc t.0, omega arith, t.2)
+
+-- a search among the cells
+pub any_above_is : (A : List ℕ) → list_any (λ c. ltb 0 c) A ≡ any_above A
+any_above_is [] = refl
+any_above_is (x ∷ xs) = ap (λ (b : Bool). ltb 0 x || b) (any_above_is xs)

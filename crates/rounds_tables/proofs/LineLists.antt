@@ -2,13 +2,13 @@
 use mathlib.Core.Path.{◌≡◌, refl, sym, ap, subst, ◌∙◌}
 use mathlib.Core.Bool.{Bool, true, false, ◌||◌}
 use mathlib.Core.List.{List}
-use Prim.Native.Nat.{ℕ, ◌+◌, ◌≤◌, ◌<◌}
+use Prim.Native.Nat.{ℕ, ◌+◌, ◌-◌, ◌≤◌, ◌<◌}
 use native.Mathlib.Decide.{ℕ_discrete}
 use native.Mathlib.Numerals.{add-one}
 use native.Mathlib.Omega.{arith}
 use lib.Dec.{T as Is, ltb}
-use lib.ListN.{length, get_or, set, length-set}
-use lib.Seq.{get_or-set_same, get_or-set_other}
+use lib.ListN.{length, get_or, set, take, drop, length-set, length-drop}
+use lib.Seq.{get_or-set_same, get_or-set_other, get_or-take, get_or-drop, length-take-le}
 use borrow.Author.Tests.{lt-ltb, le-ltb, eq-eqb, ne_eqb}
 use Rattle.plan.proofs.Truth.{is_not}
 use Rattle.rules_fill.specs.Shapes.{is_line}
@@ -199,3 +199,10 @@ module _ (T L₀ : List ℕ) (base raised lines w : ℕ) (apart : raised + w ≤
 
       pub listed_same : line_of T base c ≡ false → L' ≡ L → n' ≡ n → ListedTo T L₀ base raised lines (c + 1) L' n' × (n' ≤ c + 1)
       listed_same e p q = rw (p, q) (both_same e, omega (arith, few))
+
+-- ---- a row of a list, lent by itself
+pub row_at : (A : List ℕ) (base w c : ℕ) → c < w → get_or (take (base + w - base) (drop base A)) c 0 ≡ get_or A (base + c) 0
+row_at A base w c h = get_or-take (base + w - base) (drop base A) c 0 (omega arith) ∙ get_or-drop base A c 0
+
+pub row_length : (A : List ℕ) (base w : ℕ) → base + w ≤ length A → length (take (base + w - base) (drop base A)) ≡ w
+row_length A base w h = length-take-le (base + w - base) (drop base A) (simp length-drop (omega arith)) ∙ omega arith

@@ -2,13 +2,14 @@
 use mathlib.Core.Path.{◌≡◌, refl, sym, ap, subst, ◌∙◌}
 use mathlib.Core.Bool.{Bool}
 use mathlib.Core.List.{List}
-use Prim.Native.Nat.{ℕ, ◌+◌, ◌-◌, ◌*◌, ◌^◌, ◌≤◌, ◌<◌}
+use Prim.Native.Nat.{ℕ, ◌+◌, ◌-◌, ◌*◌, ◌≤◌, ◌<◌}
 use native.Mathlib.Nat.{one-le-mul}
 use native.Mathlib.Omega.{arith}
 use lib.ListN.{length, set, take, drop, length-set, length-drop}
-use lib.Pow.{pow_pos, pow_mono}
+use lib.Pow.{pow_pos}
 use lib.Seq.{length-take-le}
 use borrow.Rule.Slice.PartMut.{put_mid, same_len_mid}
+use Rattle.rules_rows.specs.declared.rows.Rows.{Rows}
 use Rattle.plan.specs.LinkSet.{remove}
 use Rattle.plan.specs.Plan.{width, cells}
 use Rattle.plan.specs.Layout.{plan_of}
@@ -16,10 +17,10 @@ use Rattle.plan.specs.Horizons.{plan_with}
 use Rattle.plan.proofs.LabelLaws.{four_pos}
 use Rattle.plan.proofs.Ranges.{accepted_bounded}
 use Rattle.plan.proofs.Horizons.{with_well_formed}
-use Rattle.rules_fill.specs.Parts.{next_cells, next_part, laid_over}
+use Rattle.rules_fill.specs.Parts.{point_cells, next_cells, next_part, laid_over}
 use Rattle.rules_fill.proofs.Laying.{lent_part}
 use Rattle.rules_listed.specs.Notes.{Noted}
-use Rattle.rules_refill.specs.Lent.{RefillLent, PartLent, NoneOver}
+use Rattle.rules_refill.specs.Lent.{RefillLent, NoneOver}
 use Rattle.rounds_points.specs.PointSets.{In}
 use Rattle.rounds_points.proofs.PointSets.{none_in, point_below, in_whole, in_rest, not_in_rest}
 use Rattle.rounds_tables.specs.Ready.{RoundLent}
@@ -27,7 +28,7 @@ use Rattle.rounds_tables.specs.Known.{RoundNoted}
 use Rattle.rounds_tables.proofs.RoundLaws.{next_length, row_within}
 use Rattle.rounds_tables.proofs.Refilled.{Refilled, refilled_none, part_cells, refilled_more, refilled_all, refilled_noted}
 
-module _ (bs M : List ℕ) (h : ℕ) (F G L K R N₀ D₀ : List ℕ) (w mask set₀ : ℕ) (over : Bool) where
+module _ (bs M : List ℕ) (h : ℕ) (F G L K : List ℕ) (R : Rows) (N₀ D₀ : List ℕ) (w mask set₀ : ℕ) (over : Bool) where
   -- the loop's invariant, with the lengths of the notes and of their numbers
   abbrev pub SoFar : ℕ → List ℕ → List ℕ → List ℕ → Type 0
   SoFar left S N D = Refilled (plan_with bs h) F G w set₀ left S N D × (length N ≡ length N₀) × (length D ≡ length D₀)
@@ -39,9 +40,10 @@ module _ (bs M : List ℕ) (h : ℕ) (F G L K R N₀ D₀ : List ℕ) (w mask se
     pub row : x * w + w ≤ length S
     pub row_notes : x * w + w ≤ length N
     pub x_noted : x < length D
-    pub lent : RefillLent bs M h (take e F) L K R w mask x
-    pub part_lent : PartLent w (take e F) (take (length S - x * w) (drop (x * w) S)) (take k (drop (x * w) N)) x
-    pub none_over : NoneOver (plan_with bs h) (take e F) L K over
+    pub point_in : x < (plan_of bs).points
+    pub part_long : w ≤ length (take (length S - x * w) (drop (x * w) S))
+    pub notes_room : w ≤ length (take k (drop (x * w) N))
+    pub cells_are : take w (take (length S - x * w) (drop (x * w) S)) ≡ point_cells w x (take e F)
     -- the parts come back with the point's next cells, and with the notes of those that are raised
     pub more : (Y Z : List ℕ) (count rest : ℕ) → length Y ≡ length (take (length S - x * w) (drop (x * w) S)) → length Z ≡ length (take k (drop (x * w) N))
         → Y ≡ next_part (plan_with bs h) x (take e F) (take (length S - x * w) (drop (x * w) S)) → Noted w (take e F) (x * w) Y Z count → rest ≡ remove left x → rest < left
@@ -66,13 +68,27 @@ module _ (bs M : List ℕ) (h : ℕ) (F G L K R N₀ D₀ : List ℕ) (w mask se
     some_cells : 0 < w
     some_cells = rw lent.numbers.width_is (one-le-mul (pow_pos _) (four_pos _))
 
+    -- what the points' parts are made from
+    pub refill_lent : (e : ℕ) → e ≡ cells (plan_of bs) → RefillLent bs M h (take e F) L K R w mask 0
+    refill_lent e q =
+        rw q (record {
+          accepted = lent.ready.accepted;
+          marked = lent.ready.marked;
+          horizon_far = lent.ready.horizon_far;
+          bound = lent.bound;
+          long_first = omega (arith, length-take-le (cells (plan_of bs)) F lent.ready.long_first);
+          lists_are = lent.lists_are;
+          rows_are = lent.rows_are;
+          numbers = lent.numbers;
+          point_in = omega (arith, (with_well_formed bs lent.ready.accepted h lent.ready.horizon_far).two);
+        })
+
+    pub none_lent : (e : ℕ) → e ≡ cells (plan_of bs) → NoneOver (plan_with bs h) (take e F) L K over
+    none_lent e q = rw q lent.none_over
+
     -- before the first point
     pub round_begins : SoFar set₀ G N₀ D₀
     round_begins = (refilled_none (plan_with bs h) F G w set₀ ew long long_second lent.same_cells N₀ D₀ lent.set_below lent.unaffected (omega (arith, all, lent.notes_long)) lent.no_notes, refl, refl)
-
-    -- the lowest point is asked of a set below 2 ^ 32
-    pub left_few : (left : ℕ) (S N D : List ℕ) → SoFar left S N D → left < 2 ^ 32
-    left_few left S N D so = omega (arith, so.0.left_below, pow_mono {i = (plan_of bs).points} {j = 32} (accepted_bounded bs lent.ready.accepted).points_in)
 
     -- after the last
     pub round_ends : (left : ℕ) (S N D : List ℕ) → left ≡ 0 → SoFar left S N D → (S ≡ laid_over (cells (plan_of bs)) (next_cells (plan_with bs h) F) G) × RoundNoted (plan_of bs).points w F S N D set₀
@@ -113,23 +129,10 @@ module _ (bs M : List ℕ) (h : ℕ) (F G L K R N₀ D₀ : List ℕ) (w mask se
         row = second_long;
         row_notes = notes_long;
         x_noted = omega (arith, inside, r.noted_long);
-        lent = record {
-          accepted = lent.ready.accepted;
-          marked = lent.ready.marked;
-          horizon_far = lent.ready.horizon_far;
-          bound = lent.bound;
-          long_first = omega (arith, cells_cut);
-          lists_are = lent.lists_are;
-          rows_are = lent.rows_are;
-          numbers = lent.numbers;
-          point_in = inside;
-        };
-        part_lent = record {
-          part_long = rw part_is (simp length-drop (omega (arith, second_long)));
-          notes_long = omega (arith, notes_are);
-          cells_are = ap (take w) part_is ∙ part_cells (plan_with bs h) F G w set₀ ew long long_second lent.same_cells left S N D r x x_in inside;
-        };
-        none_over = lent.none_over;
+        point_in = inside;
+        part_long = rw part_is (simp length-drop (omega (arith, second_long)));
+        notes_room = omega (arith, notes_are);
+        cells_are = ap (take w) part_is ∙ part_cells (plan_with bs h) F G w set₀ ew long long_second lent.same_cells left S N D r x x_in inside;
         more = λ Y Z count rest ly lz filled noted e less. (
           refilled_more (plan_with bs h) F G w set₀ ew long long_second lent.same_cells left S N D r x x_in inside Y Z count (ly ∙ ap length part_is ∙ length-drop (x * w) S) (lz ∙ notes_are)
               (filled ∙ ap (next_part (plan_with bs h) x (take (cells (plan_of bs)) F)) part_is) noted sized rest e (in_whole left x) (in_rest left x) (not_in_rest left x) less,

@@ -1,14 +1,17 @@
 -- Laws of walks over the points of a set, which are taken out one after another: points with lines, and raised cells above a horizon.
-use mathlib.Core.Path.{◌≡◌, ap}
-use mathlib.Core.Bool.{Bool, false}
+use mathlib.Core.Path.{◌≡◌, refl, sym, ap, ◌∙◌}
+use mathlib.Core.Bool.{Bool, true, false, ◌||◌, true≢false}
 use mathlib.Core.Logic.{◌⊎◌, inl, inr}
-use mathlib.Core.List.{List}
-use Prim.Native.Nat.{ℕ, ◌+◌, ◌*◌, ◌^◌, ◌≤◌, ◌<◌}
+use mathlib.Core.List.{List, [], ◌∷◌}
+use Prim.Native.Nat.{ℕ, zero, suc, ◌+◌, ◌-◌, ◌*◌, ◌^◌, ◌≤◌, ◌<◌}
 use native.Mathlib.Decide.{ℕ_discrete}
 use native.Mathlib.Omega.{arith}
 use lib.Bits.{bit_or}
-use lib.ListN.{length, get_or}
-use lib.Pow.{pow_mono, pow-lt}
+use lib.Dec.{ltb}
+use lib.ListN.{length, get_or, take, drop}
+use borrow.Author.Tests.{ltb-false}
+use Rattle.std.specs.List.{list_any}
+use lib.Pow.{pow-lt}
 use Rattle.plan.specs.LinkSet.{contains, remove}
 use Rattle.plan.proofs.Truth.{is?, is_not}
 use Rattle.rules_listed.specs.Places.{Places}
@@ -17,11 +20,9 @@ use Rattle.rounds_points.specs.PointSets.{In}
 use Rattle.rounds_points.proofs.PointSets.{none_in, point_below, own_bit, in_left, in_right, union_below, in_rest}
 use Rattle.rounds_tables.specs.Known.{LinedIn, LinedBut, OverLent, NoneAbove, NoneRaisedAbove}
 use Rattle.rounds_tables.proofs.RoundLaws.{row_within}
+use Rattle.rounds_tables.proofs.LineLists.{row_at, row_length}
 
 -- ---- what is left of a set of points below n
-pub left_few : (n left : ℕ) → n ≤ 32 → left < 2 ^ n → left < 2 ^ 32
-left_few n left few h = omega (arith, pow_mono {i = n} {j = 32} few)
-
 -- a point of what is left is another, or the one taken out
 pub left_or_taken : (left y rest x : ℕ) → rest ≡ remove left y → In left x → In rest x ⊎ (x ≡ y)
 left_or_taken left y rest x e h = go (ℕ_discrete x y)
@@ -78,9 +79,32 @@ module _ (n : ℕ) (counts : List ℕ) (left found y rest : ℕ) (sofar : LinedL
       one x l (inr a) = inr a
 
 -- ---- raised cells above a horizon
--- a cell that was read is no higher
-pub read_low : (A : List ℕ) (base c d r h : ℕ) → c ≡ d → r ≡ get_or A (base + c) 0 → r ≤ h → get_or A (base + d) 0 ≤ h
-read_low A base c d r h e q l = omega (arith, ap (λ (x : ℕ). get_or A (base + x) 0) e)
+-- a search that found nothing
+none_found : (f : ℕ → Bool) (xs : List ℕ) → list_any f xs ≡ false → (i : ℕ) → i < length xs → f (get_or xs i 0) ≡ false
+none_found f [] e i h = absurd (omega arith)
+none_found f (x ∷ xs) e i h = go (f x) refl e i h (none_found f xs)
+  where
+    go : (b : Bool) → f x ≡ b → b || list_any f xs ≡ false → (j : ℕ) → j < suc (length xs) → (list_any f xs ≡ false → (k : ℕ) → k < length xs → f (get_or xs k 0) ≡ false) → f (get_or (x ∷ xs) j 0) ≡ false
+    go true q z j l r = absurd (true≢false z)
+    go false q z zero l r = q
+    go false q z (suc j) l r = r z j (omega arith)
+
+-- the listed places of a row are cells of it
+pub places_inside : (A L : List ℕ) (base start k w : ℕ) → Places L start k w → base + w ≤ length A → (i : ℕ) → i < length (take (start + k - start) (drop start L)) → get_or (take (start + k - start) (drop start L)) i 0 < length (take (base + w - base) (drop base A))
+places_inside A L base start k w places long i h =
+    let l : i < k = omega (arith, row_length L start k places.long) in
+    rw (row_at L start k i l, row_length A base w long) (places.within i l)
+
+-- among the listed places of a row: none of these cells is higher
+pub none_high : (h : ℕ) (A L : List ℕ) (base start k w : ℕ) → Places L start k w → (over : Bool) → over ≡ list_any (λ c. ltb h (get_or (take (base + w - base) (drop base A)) c 0)) (take (start + k - start) (drop start L)) → NoneAbove h A L base start k over
+none_high h A L base start k w places over found = record { none = λ e i l. low e i l }
+  where
+    low : over ≡ false → (i : ℕ) → i < k → get_or A (base + get_or L (start + i) 0) 0 ≤ h
+    low e i l =
+        let listed = row_at L start k i l in
+        let read = row_at A base w (get_or L (start + i) 0) (places.within i l) in
+        let low_there = none_found (λ c. ltb h (get_or (take (base + w - base) (drop base A)) c 0)) (take (start + k - start) (drop start L)) (sym found ∙ e) i (omega (arith, row_length L start k places.long)) in
+        omega (arith, ltb-false h (get_or A (base + get_or L (start + i) 0) 0) (rw (listed, read) at low_there))
 
 pub record OverLeft (n w horizon : ℕ) (table lists counts : List ℕ) (changed left : ℕ) : Type 0 where
   pub left_below : left < 2 ^ n

@@ -8,7 +8,7 @@ use Rattle.plan.specs.Refusal.{Accepted}
 use Rattle.rules.specs.Tables.{next}
 use Rattle.rules_fill.specs.Parts.{part, AtMost}
 use Rattle.rules_fill.specs.Filling.{FillNumbers}
-use Rattle.rules_rows.specs.RowsRead.{RowsRead}
+use Rattle.rules_rows.specs.declared.rows.Rows.{Rows}
 use Rattle.rules_refill.specs.Lists.{Lists}
 use Rattle.rules_refill.specs.Lent.{NoneOver}
 use Rattle.rounds_points.specs.PointSets.{In}
@@ -32,11 +32,11 @@ pub record NoNotes (points : ℕ) (noted : List ℕ) : Type 0 where
 
 -- for a round from raised cells: waits to which a duration can be added in 32 bits, the same cells in both tables, the plan's rows, the lists of lines and
 -- raised places, room for notes, and a set of points: the others keep their cells
-pub record RoundLent (plan marks : List ℕ) (horizon : ℕ) (first second lists counts rows notes noted : List ℕ) (w mask set : ℕ) (over : Bool) : Type 0 where
+pub record RoundLent (plan marks : List ℕ) (horizon : ℕ) (first second lists counts : List ℕ) (rows : Rows) (notes noted : List ℕ) (w mask set : ℕ) (over : Bool) : Type 0 where
   pub ready : Ready plan marks horizon first second
   pub bound : AtMost 4000000000 (take (cells (plan_of plan)) first)
   pub same_cells : take (cells (plan_of plan)) second ≡ take (cells (plan_of plan)) first
-  pub rows_are : RowsRead (plan_of plan) rows
+  pub rows_are : rows.plan.now ≡ plan
   pub numbers : FillNumbers plan w mask
   pub lists_are : Lists (plan_with plan horizon) (take (cells (plan_of plan)) first) lists counts
   pub none_over : NoneOver (plan_with plan horizon) (take (cells (plan_of plan)) first) lists counts over

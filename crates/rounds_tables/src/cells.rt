@@ -5,25 +5,23 @@ ghost use Rattle.rules_fill.specs.Parts.{laid_over};
 ghost use Rattle.rounds_tables.specs.Cells.{same, any_above};
 ghost use Rattle.rounds_tables.specs.Ready.{SameOutside, Compared};
 
-use rounds_points::has;
+use rounds_points::PointSet;
 
 // How many cells of point x are to be compared: none where it is outside the set.
-fn to_compare(set: usize, x: usize, width: usize) -> usize
+fn to_compare(set: PointSet, x: usize, width: usize) -> usize
     requires { x < 32 }
     ensures { Compared set x width result }
 {
-    if has(set, x) {
-        return width;
-    }
-    0
+    if set.contains(x) { width } else { 0 }
 }
 
 // Whether the first cells of two tables agree, point by point up to the first cell that differs. Outside the set of points they do.
-pub fn same_cells(first: &[u32], second: &[u32], points: usize, width: usize, set: usize) -> bool
+pub fn same_cells(first: &[u32], second: &[u32], points: usize, width: usize, set: PointSet) -> bool
     requires points_bound { (points ≤ 32) × (points * width ≤ length first.now) × (points * width ≤ length second.now) }
     requires same_outside { SameOutside points width first.now second.now set }
     ensures { result ≡ same (take (points * width) first.now) (take (points * width) second.now) }
 {
+    // Document 01's form for this comparison: a nested walk, left by a label.
     let mut agree = true;
     'walk: for x in 0..points {
         let start = x * width;
@@ -43,12 +41,7 @@ pub fn first_alarm_waits(table: &[u32], n: usize) -> bool
     requires { n ≤ length table.now }
     ensures { result ≡ any_above (take n table.now) }
 {
-    for c in 0..n {
-        if table[c] != 0 {
-            return true;
-        }
-    }
-    false
+    table[..n].iter().any(|&wait| wait > 0)
 }
 
 // The first n cells at 0.
@@ -57,7 +50,5 @@ pub fn clear_cells(table: &mut [u32], n: usize)
     ensures table_value { table.new ≡ laid_over n (replicate n 0) table.old }
     ensures same_length { SameLength table }
 {
-    for c in 0..n {
-        table[c] = 0;
-    }
+    table[..n].fill(0);
 }

@@ -14,8 +14,8 @@ fn list_point(table: &[u32], lists: &mut [u16], width: usize, y: usize) -> usize
     let raised = 2 * y * width;
     let lines = (2 * y + 1) * width;
     let mut n = 0;
-    for c in 0..width {
-        if c == 0 || table[base + c] != 0 {
+    for (c, &wait) in table[base..base + width].iter().enumerate() {
+        if c == 0 || wait != 0 {
             lists[raised + n] = c as u16;
             lists[lines + n] = c as u16;
             n += 1;
@@ -36,6 +36,7 @@ pub fn list_lines(
     ensures all_listed { AllListed points width table.now lists.new counts.new }
     ensures same_length { SameLength lists × SameLength counts }
 {
+    // By number: each point writes two counts and two lists, which no iterator over one of them gives.
     for y in 0..points {
         let n = list_point(table, lists, width, y);
         counts[2 * y] = n;

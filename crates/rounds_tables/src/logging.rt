@@ -3,8 +3,6 @@ ghost use Rattle.std.specs.Prelude.{List, [], ◌∷◌, ◌++◌, ℕ, ◌+◌,
 ghost use Rattle.plan.specs.Moments.{SameLength};
 ghost use Rattle.rounds_tables.specs.Log.{raised_entries, round_entries, Logged, LogGrew, CellLogLent, PointLogLent, LogLent};
 
-use plan::widen_cell;
-
 // One more entry, if the log has room; gives the number of entries.
 fn push(log: &mut [u64], at: usize, entry: u64) -> usize
     requires { at ≤ length log.old }
@@ -26,7 +24,7 @@ fn log_cell(first: &[u32], second: &[u32], log: &mut [u64], at: usize, c: usize)
     ensures same_length { SameLength log }
 {
     if first[c] < second[c] {
-        return push(log, at, widen_cell(second[c]) * 65536 + c as u64);
+        return push(log, at, u64::from(second[c]) * 65536 + c as u64);
     }
     at
 }
@@ -67,12 +65,12 @@ pub fn log_round(
     ensures upper_bound { result ≤ length log.new }
     ensures same_length { SameLength log }
 {
-    if log.len() == 0 {
+    if log.is_empty() {
         return at;
     }
     let mut end = at;
-    for x in 0..points {
-        if noted[x] != 0 {
+    for (x, &raised) in noted[..points].iter().enumerate() {
+        if raised != 0 {
             end = log_point(first, second, log, end, width, x);
         }
     }

@@ -9,9 +9,10 @@ ghost use Rattle.rounds_tables.specs.Ready.{Ready, RoundLent};
 ghost use Rattle.rounds_tables.specs.Known.{RoundNoted};
 
 use plan::{cells, points, width as point_width};
-use rounds_points::{lowest, without};
+use rounds_points::PointSet;
 use rules_fill::fill_point;
-use rules_refill::refill_point;
+use rules_refill::Refill;
+use rules_rows::Rows;
 
 // One round: each point gets its part of the second table, which starts at the point's first cell.
 pub fn round(plan: &[u8], marks: &[u8; 256], horizon: u64, first: &[u32], second: &mut [u32])
@@ -39,12 +40,12 @@ pub fn next_round(
     second: &mut [u32],
     lists: &[u16],
     counts: &[usize],
-    rows: &[u16],
+    rows: &Rows,
     notes: &mut [u16],
     noted: &mut [usize],
     width: usize,
     mask: usize,
-    set: usize,
+    set: PointSet,
     over: bool,
 )
     requires { RoundLent plan.now marks.now horizon first.now second.old lists.now counts.now rows.now notes.old noted.old width mask set over }
@@ -53,25 +54,24 @@ pub fn next_round(
     ensures same_length { SameLength second × SameLength notes × SameLength noted }
 {
     let end = cells(plan);
-    let mut left = set;
-    while left != 0 {
-        let x = lowest(left);
-        left = without(left, x);
+    let refill = Refill::new(
+        plan,
+        marks,
+        horizon,
+        &first[..end],
+        lists,
+        counts,
+        rows,
+        width,
+        mask,
+    );
+    for x in set.iter() {
         let start = x * width;
-        noted[x] = refill_point(
-            plan,
-            marks,
-            horizon,
-            &first[..end],
-            lists,
-            counts,
-            rows,
-            &mut second[start..],
-            &mut notes[start..start + width],
-            width,
-            mask,
+        noted[x] = refill.refill_point(
             x,
             over,
+            &mut second[start..],
+            &mut notes[start..start + width],
         );
     }
 }

@@ -1,12 +1,11 @@
 // After a round: its raised cells into the other table, and into the lists that the next round goes by.
-ghost use Rattle.std.specs.Prelude.{◌+◌, ◌≤◌, length};
+ghost use Rattle.std.specs.Prelude.{◌≡◌, ℕ, ◌<◌, length, get_or, ltb};
+ghost use Rattle.std.specs.List.{list_any};
 ghost use Rattle.plan.specs.Moments.{SameLength};
-ghost use Rattle.rules_listed.specs.Places.{Places};
-ghost use Rattle.rounds_tables.specs.Known.{SettleLent, AfterSettle, LinedBut, LinedIn, OverLent, NoneAbove, NoneRaisedAbove};
+ghost use Rattle.rounds_tables.specs.Known.{SettleLent, AfterSettle, LinedBut, LinedIn, OverLent, NoneRaisedAbove};
 ghost use Rattle.rounds_tables.specs.Settling.{CellLent, AfterCell, PointLent, AfterPoint};
 
-use plan::{cell_at, widen_word};
-use rounds_points::{bit, lowest, without};
+use rounds_points::PointSet;
 
 // One cell of a point, whose cells start at base, from one table to the other; a cell that was 0 is a line from now on.
 // The point's lines are listed from `at` on; gives their number.
@@ -27,10 +26,7 @@ fn settle_cell(
     let c = base + place;
     let was = target[c];
     target[c] = source[c];
-    if was != 0 {
-        return known;
-    }
-    if place == 0 {
+    if was != 0 || place == 0 {
         return known;
     }
     lists[at + known] = place as u16;
@@ -56,8 +52,7 @@ fn settle_point(
     let raised = 2 * y * width;
     let lines = (2 * y + 1) * width;
     let mut lined = known;
-    for i in 0..n {
-        let place = notes[base + i];
+    for (i, &place) in notes[base..base + n].iter().enumerate() {
         lists[raised + i] = place;
         lined = settle_cell(
             source,
@@ -66,7 +61,7 @@ fn settle_point(
             base,
             lines,
             lined,
-            widen_word(place),
+            usize::from(place),
             width,
         );
     }
@@ -74,6 +69,7 @@ fn settle_point(
 }
 
 // The noted cells of the points of a set, which has all points with notes or raised places. Gives the set of the points that have notes; then none has.
+// It changes most of what it is lent, so a struct of the rest would hold only the source and the notes, which is no plainer.
 pub fn settle(
     source: &[u32],
     target: &mut [u32],
@@ -83,17 +79,14 @@ pub fn settle(
     counts: &mut [usize],
     points: usize,
     width: usize,
-    set: usize,
-) -> usize
+    set: PointSet,
+) -> PointSet
     requires { SettleLent points width source.now target.old notes.now noted.old lists.old counts.old set }
     ensures after_settle { AfterSettle points width source.now target.old target.new noted.new lists.new counts.new result }
     ensures same_length { SameLength target × SameLength noted × SameLength lists × SameLength counts }
 {
-    let mut left = set;
-    let mut changed = 0;
-    while left != 0 {
-        let y = lowest(left);
-        left = without(left, y);
+    let mut changed = PointSet::new();
+    for y in set.iter() {
         let n = noted[y];
         noted[y] = 0;
         counts[2 * y] = n;
@@ -108,49 +101,35 @@ pub fn settle(
                 width,
                 y,
             );
-            changed = changed | bit(y);
+            changed.insert(y);
         }
     }
     changed
 }
 
 // The points with a line beside the starting line: those that had one, and changed points that have one.
-pub fn lined_after(counts: &[usize], points: usize, changed: usize, lined: usize) -> usize
+pub fn lined_after(counts: &[usize], points: usize, changed: PointSet, lined: PointSet) -> PointSet
     requires { LinedBut points counts.now changed lined }
     ensures { LinedIn points counts.now result }
 {
-    let mut left = changed;
+    // A fold would name the set in both branches of a closure, which is no plainer.
     let mut found = lined;
-    while left != 0 {
-        let y = lowest(left);
-        left = without(left, y);
+    for y in changed.iter() {
         if 1 < counts[2 * y + 1] {
-            found = found | bit(y);
+            found.insert(y);
         }
     }
     found
 }
 
-// Whether one of n listed cells of a point waits longer than the horizon.
-fn any_over(
-    table: &[u32],
-    lists: &[u16],
-    base: usize,
-    start: usize,
-    n: usize,
-    width: usize,
-    horizon: u64,
-) -> bool
-    requires { Places lists.now start n width × (base + width ≤ length table.now) }
-    ensures { NoneAbove horizon table.now lists.now base start n result }
+// Whether one of the listed cells waits longer than the horizon.
+fn any_over(cells: &[u32], places: &[u16], horizon: u64) -> bool
+    requires { (i : ℕ) → i < length places.now → get_or places.now i 0 < length cells.now }
+    ensures { result ≡ list_any (λ c. ltb horizon (get_or cells.now c 0)) places.now }
 {
-    for i in 0..n {
-        let c = widen_word(lists[start + i]);
-        if horizon < cell_at(table, base + c) {
-            return true;
-        }
-    }
-    false
+    places
+        .iter()
+        .any(|&place| horizon < u64::from(cells[usize::from(place)]))
 }
 
 // Whether a raised cell of one of the changed points waits longer than the horizon.
@@ -160,25 +139,19 @@ pub fn over_horizon(
     counts: &[usize],
     points: usize,
     width: usize,
-    changed: usize,
+    changed: PointSet,
     horizon: u64,
 ) -> bool
     requires { OverLent points width table.now lists.now counts.now changed }
     ensures { NoneRaisedAbove points width horizon table.now lists.now counts.now changed result }
 {
-    let mut left = changed;
-    while left != 0 {
-        let y = lowest(left);
-        left = without(left, y);
-        if any_over(
-            table,
-            lists,
-            y * width,
-            2 * y * width,
-            counts[2 * y],
-            width,
-            horizon,
-        ) {
+    // The closure of an `any` would have all these lines, which is no plainer.
+    for y in changed.iter() {
+        let base = y * width;
+        let start = 2 * y * width;
+        let cells = &table[base..base + width];
+        let raised = &lists[start..start + counts[2 * y]];
+        if any_over(cells, raised, horizon) {
             return true;
         }
     }

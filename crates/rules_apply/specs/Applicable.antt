@@ -1,5 +1,6 @@
 -- For inner contracts only: what applying a rule is lent, and rule 1 along an edge. Nothing here is to be believed.
-use Rattle.std.specs.Prelude.{◌≡◌, ◌&&◌, List, ℕ, ◌^◌, ◌≤◌, ◌<◌, ltb, eqb}
+use Rattle.std.specs.Prelude.{◌≡◌, ◌&&◌, List, ℕ, ◌^◌, ◌≤◌, ◌<◌, ltb, eqb, Option}
+use Rattle.std.specs.Bool.{then_some}
 use Rattle.plan.specs.Label.{join, plain, Marks}
 use Rattle.plan.specs.Plan.{Plan}
 use Rattle.plan.specs.Layout.{plan_of}
@@ -9,17 +10,15 @@ use Rattle.rules.specs.declared.Constraint.{Constraint}
 use Rattle.rules.specs.declared.Rule.{Rule}
 use Rattle.rules.specs.Rules.{less_weight}
 use Rattle.rules.specs.Derivations.{InPlan}
-use Rattle.rules_apply.specs.declared.Applied.{Applied}
-use Rattle.rules_apply.specs.Applying.{given}
 
 -- rule 1 along an edge that says c, where there are p propositions
-abbrev pub along_edge : ℕ → Constraint → Line → Applied
+abbrev pub along_edge : ℕ → Constraint → Line → Option Line
 along_edge p c l =
-    given (eqb l.point c.to && plain p l.label && plain p (join p c.label l.label) && ltb 0 (less_weight c l.wait))
+    then_some (eqb l.point c.to && plain p l.label && plain p (join p c.label l.label) && ltb 0 (less_weight c l.wait))
     (record { point = c.from; set = l.set; label = join p c.label l.label; wait = less_weight c l.wait })
 
 -- r is that, however many propositions there are, up to four
-abbrev pub Along : Constraint → Line → Applied → Type 0
+abbrev pub Along : Constraint → Line → Option Line → Type 0
 Along c l r = (p : ℕ) → p ≤ 4 → c.label < 4 ^ p → l.label < 4 ^ p → r ≡ along_edge p c l
 
 -- a line that the code applies a rule to: its label has p digits, and a duration can be added to its wait in 64 bits

@@ -1,19 +1,14 @@
--- Applying a rule to its parents (6, 11.4): what it gives, or nothing. The enum Applied is the code's.
-use Rattle.std.specs.Prelude.{Bool, true, false, ◌&&◌, eqb}
+-- Applying a rule to its parents (6, 11.4): what it gives, or nothing.
+use Rattle.std.specs.Prelude.{Bool, ◌&&◌, eqb, Option}
+use Rattle.std.specs.Bool.{then_some}
 use Rattle.plan.specs.Plan.{Plan}
 use Rattle.rules.specs.declared.Line.{Line}
 use Rattle.rules.specs.declared.Rule.{Rule}
-use Rattle.rules_apply.specs.declared.Applied.{Applied}
-use Rattle.rules_apply.specs.declared.Applied.TheVariants.{Gives, Nothing}
 use Rattle.rules.specs.Rules.{fires, result}
 
-abbrev pub given : Bool → Line → Applied
-given true l = Gives l
-given false l = Nothing
-
 -- 6: the rule's line where the rule fires
-abbrev pub applied : Plan → Rule → Line → Line → Applied
-applied P r l m = given (fires P r l m) (result P r l m)
+abbrev pub applied : Plan → Rule → Line → Line → Option Line
+applied P r l m = then_some (fires P r l m) (result P r l m)
 
 -- 11.4: two lines agree in point, set, label and wait
 unfoldable pub is_same_line : Line → Line → Bool

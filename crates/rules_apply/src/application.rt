@@ -1,10 +1,9 @@
 // Any rule applied to lines.
 ghost use Rattle.std.specs.Prelude.{◌≡◌};
 ghost use Rattle.plan.specs.Layout.{plan_of};
-ghost use Rattle.rules_apply.specs.Applying.{applied, is_same_line, gives_line_of};
+ghost use Rattle.rules_apply.specs.Applying.{applied, gives_line_of};
 ghost use Rattle.rules_apply.specs.Applicable.{Applicable};
 
-use crate::Applied;
 use crate::propagation::{apply_edge, apply_lower, apply_upper};
 use crate::removal::{apply_letter, apply_literal, apply_own_literal};
 use rules::{Line, Rule};
@@ -17,7 +16,7 @@ pub fn apply(
     by: Rule,
     first: Line,
     second: Line,
-) -> Applied
+) -> Option<Line>
     requires { Applicable plan.now marks.now horizon by first second }
     ensures { result ≡ applied (plan_of plan.now) by first second }
 {
@@ -29,21 +28,6 @@ pub fn apply(
         Rule::OwnLiteral(j) => apply_own_literal(plan, j, first),
         Rule::LiteralRemoval(j) => apply_literal(plan, j, first, second),
     }
-}
-
-fn same_line(k: Line, l: Line) -> bool
-    ensures { result ≡ is_same_line k l }
-{
-    if k.point != l.point {
-        return false;
-    }
-    if k.set != l.set {
-        return false;
-    }
-    if k.label != l.label {
-        return false;
-    }
-    k.wait == l.wait
 }
 
 // Whether the rule gives just this line from two.
@@ -59,8 +43,5 @@ pub fn gives_line(
     requires { Applicable plan.now marks.now horizon by first second }
     ensures { result ≡ gives_line_of (plan_of plan.now) by first second line }
 {
-    match apply(plan, marks, horizon, by, first, second) {
-        Applied::Gives(given) => same_line(given, line),
-        Applied::Nothing => false,
-    }
+    apply(plan, marks, horizon, by, first, second) == Some(line)
 }

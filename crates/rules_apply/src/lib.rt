@@ -7,12 +7,4 @@ mod removal;
 mod sets;
 
 pub use application::{apply, gives_line};
-use rules::Line;
 pub use sets::contains;
-
-// What applying a rule gives.
-#[derive(Clone, Copy)]
-pub enum Applied {
-    Gives(Line),
-    Nothing,
-}

@@ -26,8 +26,5 @@ pub fn remove(set: usize, i: usize) -> usize
     requires { i < 64 }
     ensures { result ≡ sets.remove set i }
 {
-    if contains(set, i) {
-        return set - (1 << i);
-    }
-    set
+    set & !(1 << i)
 }

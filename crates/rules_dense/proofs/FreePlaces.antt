@@ -12,7 +12,7 @@ use lib.Pow.{pow_pos, pow-add}
 use borrow.Author.Tests.{eq-eqb, ne_eqb}
 use Rattle.rules_fill.specs.Shapes.{touches, cleared, is_line}
 use Rattle.rules_fill.specs.Cells.{Run}
-use Rattle.rules_dense.specs.Gathered.{free_place, FreeRun, FreeOf}
+use Rattle.rules_dense.specs.Gathered.{free_place, FreeRun}
 
 -- a place's value of the row's bits, and which of the places without them it else is
 abbrev pub value_of : ℕ → ℕ → ℕ → ℕ
@@ -147,8 +147,8 @@ module _ {low times count : ℕ} (f : FreeRun low times count) where
     cleared_valued z m k = omega (arith, value_bits z m k)
 
 -- ---- the places of a row, as the code counts them
-pub free_of : {low mask w : ℕ} → Run low mask w → w ≤ 65536 → FreeOf mask w (record { count = w / (mask / low + 1); low = low; times = mask / low + 1 })
-free_of {low} {mask} {w} r small = record { run = run; width_is = width_is; mask_is = block_is }
+pub free_of : {low mask w : ℕ} → Run low mask w → w ≤ 65536 → FreeRun low (mask / low + 1) (w / (mask / low + 1)) × (((mask / low + 1) * (w / (mask / low + 1)) ≡ w) × (mask + low ≡ (mask / low + 1) * low))
+free_of {low} {mask} {w} r small = (run, (width_is, block_is))
   where
     low_some : 0 < low
     low_some = rw r.low_is (pow_pos r.below)

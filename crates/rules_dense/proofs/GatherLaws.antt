@@ -2,14 +2,14 @@
 use mathlib.Core.Path.{◌≡◌, refl, sym, ap, ap₂, ◌∙◌}
 use mathlib.Core.Bool.{Bool, true, false, cond, ◌||◌}
 use mathlib.Core.Logic.{◌⊎◌, inl, inr}
-use mathlib.Core.List.{List}
-use Prim.Native.Nat.{ℕ, ◌+◌, ◌-◌, ◌*◌, ◌≤◌, ◌<◌, max}
+use mathlib.Core.List.{List, ◌++◌}
+use Prim.Native.Nat.{ℕ, zero, suc, ◌+◌, ◌-◌, ◌*◌, ◌≤◌, ◌<◌, max}
 use native.Mathlib.Nat.{add_assoc}
 use native.Mathlib.Decide.{ℕ_discrete}
 use native.Mathlib.Omega.{arith}
 use lib.Dec.{ltb, eqb}
-use lib.ListN.{length, get_or, set}
-use lib.Seq.{get_or-set_same, get_or-set_other}
+use lib.ListN.{length, get_or, set, take, drop, length-set, take-append-drop, get_or-append}
+use lib.Seq.{get_or-set_same, get_or-set_other, length-take-le, set-append_left}
 use borrow.Author.Tests.{lt-ltb, le-ltb, eq-eqb, ne_eqb}
 use Rattle.rules.specs.Tables.{raise_cell}
 use Rattle.rules.proofs.Raising.{Raises, raises_cell}
@@ -33,6 +33,24 @@ filled_on f i A v d long e = record { at = λ z h. go z h (ℕ_discrete z i) }
 
 pub filled_by : {f : ℕ → ℕ} {i n : ℕ} {A : List ℕ} → Filled f i A → i ≡ n → Filled f n A
 filled_by d e = rw (sym e) d
+
+-- ---- the first entries of a run, and the run
+pub front_filled : {f : ℕ → ℕ} {n : ℕ} {A : List ℕ} (D : List ℕ) → Filled f n A → n ≤ length A → Filled f n (A ++ D)
+front_filled {A = A} D d h = record { at = λ z k. get_or-append A D 0 z (omega (arith, h, k)) ∙ d.at z k }
+
+module _ (F : List ℕ) (base low times m n : ℕ) (A : List ℕ) (long : n ≤ length A) where
+  front_own : (i : ℕ) → i ≤ n → (length (steps (own_step F base low times m) i (take n A)) ≡ n) × (steps (own_step F base low times m) i (take n A) ++ drop n A ≡ steps (own_step F base low times m) i A)
+  unfolding steps own_step raise_cell
+  front_own zero h = (length-take-le n A long, take-append-drop n A)
+  front_own (suc i) h =
+      let r = front_own i (omega arith) in
+      let B : List ℕ = steps (own_step F base low times m) i (take n A) in
+      let v : ℕ = get_or F (base + m * low + free_place low times i) 0 in
+      let k : i < length B = omega (arith, r.0) in
+      (simp length-set r.0, sym (set-append_left B (drop n A) i (max (get_or B i 0) v) k) ∙ ap (λ (w : ℕ). set (B ++ drop n A) i (max w v)) (sym (get_or-append B (drop n A) 0 i k)) ∙ ap (λ (T : List ℕ). set T i (max (get_or T i 0) v)) r.1)
+
+  pub own_whole : (i : ℕ) (B : List ℕ) → B ≡ steps (own_step F base low times m) i (take n A) → i ≡ n → B ++ drop n A ≡ steps (own_step F base low times m) n A
+  own_whole i B e h = ap (λ (T : List ℕ). T ++ drop n A) (e ∙ ap (λ (k : ℕ). steps (own_step F base low times m) k (take n A)) h) ∙ (front_own n (omega arith)).1
 
 -- ---- the steps of the loops
 pub own_on : (F : List ℕ) (base low times m z : ℕ) (A B : List ℕ) (p v : ℕ) → B ≡ steps (own_step F base low times m) z A → p ≡ free_place low times z → v ≡ max (get_or B z 0) (get_or F (base + m * low + p) 0) → set B z v ≡ steps (own_step F base low times m) (z + 1) A

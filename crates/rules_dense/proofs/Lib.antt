@@ -1,4 +1,5 @@
 mod FreePlaces
+mod FreeHad
 mod GatherLaws
 mod RoomLaws
 mod DenseLaws

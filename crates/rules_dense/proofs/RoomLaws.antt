@@ -10,9 +10,9 @@ use lib.Seq.{length-take-le, get_or-take}
 use Rattle.rules_halving.specs.Products.{pair_wait, PairGives, Product, HalveLent}
 use Rattle.rules_dense.specs.Gathered.{FreeRun, Room, NoWaits}
 
--- ---- new room, of k entries that are 0
-pub new_room : {low times n : ℕ} (k : ℕ) → FreeRun low times n → n ≤ k → Room n (replicate k 0) (replicate (k + k) 0) (replicate k 0)
-new_room {n = n} k f h = record { power = f.above + f.below; power_is = f.count_is; long_own = omega (arith, length-replicate {A = ℕ} k 0); long_others = omega (arith, length-replicate {A = ℕ} (k + k) 0); long_given = omega (arith, length-replicate {A = ℕ} k 0) }
+-- ---- new room, of k entries that are 0, and of m for two halves
+pub new_room : {low times n : ℕ} (k m : ℕ) → FreeRun low times n → n ≤ k → k + k ≤ m → Room n (replicate k 0) (replicate m 0) (replicate k 0)
+new_room {n = n} k m f h l = record { power = f.above + f.below; power_is = f.count_is; long_own = omega (arith, length-replicate {A = ℕ} k 0); long_others = omega (arith, length-replicate {A = ℕ} m 0); long_given = omega (arith, length-replicate {A = ℕ} k 0) }
 
 pub no_waits : {n : ℕ} (k : ℕ) → n ≤ k → NoWaits n (replicate k 0)
 no_waits k h z j = get_or-replicate k z 0 0 (omega arith)

@@ -4,7 +4,6 @@ use Rattle.std.specs.Prelude.{◌≡◌, cond, List, ℕ, ◌+◌, ◌*◌, ◌/
 use Rattle.rules.specs.Tables.{raise_cell}
 use Rattle.rules_fill.specs.Steps.{steps}
 use Rattle.rules_fill.specs.Shapes.{is_line}
-use Rattle.rules_dense.specs.declared.gather.Free.{Free}
 
 -- ---- places
 -- the z-th place without the row's bits
@@ -21,18 +20,9 @@ pub record FreeRun (low times count : ℕ) : Type 0 where
   pub count_is : count ≡ 2 ^ (above + below)
   pub small : times * count ≤ 65536
 
-abbrev pub Frees : Free → Type 0
-Frees free = FreeRun free.low free.times free.count
-
--- those of a row's mask, among w places
-pub record FreeOf (mask w : ℕ) (free : Free) : Type 0 where
-  pub run : Frees free
-  pub width_is : free.times * free.count ≡ w
-  pub mask_is : mask + free.low ≡ free.times * free.low
-
 -- a table that has all places from base on
-abbrev pub PlacesIn : List ℕ → ℕ → Free → Type 0
-PlacesIn F base free = base + free.times * free.count ≤ length F
+abbrev pub PlacesIn : List ℕ → ℕ → ℕ → ℕ → Type 0
+PlacesIn F base times count = base + times * count ≤ length F
 
 -- ---- what is gathered
 -- point x's places that have the row's bits at value m

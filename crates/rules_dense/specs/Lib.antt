@@ -1,1 +1,3 @@
 pub mod Gathered
+pub mod Frees
+pub mod Lent

@@ -1,19 +1,19 @@
 // Rules 4 and 6 of a row, in the way that takes fewer steps.
-ghost use Rattle.std.specs.Prelude.{◌≡◌, ◌+◌, ◌*◌, ◌≤◌, ◌<◌, length};
+ghost use Rattle.std.specs.Prelude.{◌≡◌, ◌+◌, ◌≤◌, ◌<◌};
 ghost use Rattle.plan.specs.Moments.{SameLength};
-ghost use Rattle.rules_fill.specs.Shapes as shapes;
 ghost use Rattle.rules_fill.specs.Cells.{Run};
-ghost use Rattle.rules_fill.specs.Parts.{AtMost};
-ghost use Rattle.rules_listed.specs.Notes.{Noted};
-ghost use Rattle.rules_listed.specs.Rests.{RemoveRest};
-ghost use Rattle.rules_listed.specs.Listed.{RemoveLent};
+ghost use Rattle.rules_listed.specs.Rows.{PointRows};
+ghost use Rattle.rules_listed.specs.Parts.{SamePart};
+ghost use Rattle.rules_listed.specs.Listed.{PairsRest, remove_by};
 ghost use Rattle.rules_halving.specs.Products.{Product};
-ghost use Rattle.rules_dense.specs.Gathered.{FreeOf, Room, NoWaits};
+ghost use Rattle.rules_dense.specs.Gathered.{Room, NoWaits};
+ghost use Rattle.rules_dense.specs.Frees.{FreeOf};
+ghost use Rattle.rules_dense.specs.Lent.{HalvesLent};
 
 use crate::gather::{Free, gather_others, gather_own, gather_part, spread_part};
 use rules_fill::Remover;
 use rules_halving::halve;
-use rules_listed::remove_pairs;
+use rules_listed::{Part, Table};
 
 // All pairs of the first n waits of two runs, given to a third.
 fn give_pairs(own: &[u32], others: &mut [u32], given: &mut [u32], n: usize)
@@ -26,182 +26,96 @@ fn give_pairs(own: &[u32], others: &mut [u32], given: &mut [u32], n: usize)
 
 // From all cells of both points, with room for their waits and for those of the part.
 fn remove_in_room(
-    first: &[u32],
-    part: &mut [u32],
-    notes: &mut [u16],
-    count: usize,
-    width: usize,
-    x: usize,
+    table: &Table,
     by: Remover,
     free: Free,
     own: &mut [u32],
     others: &mut [u32],
     given: &mut [u32],
-) -> usize
-    requires remove_lent { RemoveLent first.now width x by × AtMost 4000000000 first.now }
-    requires free_of { FreeOf by.mask width free × Room free.count own.old others.old given.old × NoWaits free.count own.old }
-    requires noted { Noted width first.now (x * width) part.old notes.old count }
-    ensures part_value { part.new ≡ shapes.remove_in width first.now by.other by.mask by.add x part.old }
-    ensures noted_2 { Noted width first.now (x * width) part.new notes.new result }
-    ensures same_length { SameLength part × SameLength notes }
+    part: &mut Part,
+)
+    requires remove_lent { HalvesLent table.now by part.old }
+    requires free_of { FreeOf by.mask table.now.width free × Room free.count own.old others.old given.old × NoWaits free.count own.old }
+    ensures cells_value { part.new.cells.now ≡ remove_by table.now by part.old.point part.old.cells.now }
+    ensures same_part { SamePart part.old part.new }
 {
-    gather_own(first, x * width, own, free);
-    gather_others(first, by.other * width, others, free, by.add as u32);
+    gather_own(table.first, part.point * table.width, own, free);
+    gather_others(
+        table.first,
+        by.other * table.width,
+        others,
+        free,
+        by.add as u32,
+    );
     gather_part(part, given, free);
     give_pairs(own, others, given, free.count);
-    spread_part(first, x * width, part, notes, count, width, given, free)
+    spread_part(given, free, part);
 }
 
-// Rooms of two sizes, so that few places pay nothing for many.
-fn remove_few(
-    first: &[u32],
-    part: &mut [u32],
-    notes: &mut [u16],
-    count: usize,
-    width: usize,
-    x: usize,
+// In rooms for N places and for M, twice as many, so that few places pay nothing for many.
+fn remove_in_rooms<const N: usize, const M: usize>(
+    table: &Table,
     by: Remover,
     free: Free,
-) -> usize
-    requires remove_lent { RemoveLent first.now width x by × AtMost 4000000000 first.now }
-    requires free_of { FreeOf by.mask width free × (free.count ≤ 64) }
-    requires noted { Noted width first.now (x * width) part.old notes.old count }
-    ensures part_value { part.new ≡ shapes.remove_in width first.now by.other by.mask by.add x part.old }
-    ensures noted_2 { Noted width first.now (x * width) part.new notes.new result }
-    ensures same_length { SameLength part × SameLength notes }
+    part: &mut Part,
+)
+    requires remove_lent { HalvesLent table.now by part.old }
+    requires free_of { FreeOf by.mask table.now.width free }
+    requires rooms { (free.count ≤ N) × (N + N ≤ M) × (M ≤ 4096) }
+    ensures cells_value { part.new.cells.now ≡ remove_by table.now by part.old.point part.old.cells.now }
+    ensures same_part { SamePart part.old part.new }
 {
-    let mut own = [0u32; 64];
-    let mut others = [0u32; 128];
-    let mut given = [0u32; 64];
-    remove_in_room(
-        first,
-        part,
-        notes,
-        count,
-        width,
-        x,
-        by,
-        free,
-        &mut own,
-        &mut others,
-        &mut given,
-    )
-}
-
-fn remove_many(
-    first: &[u32],
-    part: &mut [u32],
-    notes: &mut [u16],
-    count: usize,
-    width: usize,
-    x: usize,
-    by: Remover,
-    free: Free,
-) -> usize
-    requires remove_lent { RemoveLent first.now width x by × AtMost 4000000000 first.now }
-    requires free_of { FreeOf by.mask width free × (free.count ≤ 2048) }
-    requires noted { Noted width first.now (x * width) part.old notes.old count }
-    ensures part_value { part.new ≡ shapes.remove_in width first.now by.other by.mask by.add x part.old }
-    ensures noted_2 { Noted width first.now (x * width) part.new notes.new result }
-    ensures same_length { SameLength part × SameLength notes }
-{
-    let mut own = [0u32; 2048];
-    let mut others = [0u32; 4096];
-    let mut given = [0u32; 2048];
-    remove_in_room(
-        first,
-        part,
-        notes,
-        count,
-        width,
-        x,
-        by,
-        free,
-        &mut own,
-        &mut others,
-        &mut given,
-    )
+    let mut own = [0u32; N];
+    let mut others = [0u32; M];
+    let mut given = [0u32; N];
+    remove_in_room(table, by, free, &mut own, &mut others, &mut given, part);
 }
 
 // From all cells of both points, of which at most 2,048 places have none of the row's bits.
-fn remove_by_halves(
-    first: &[u32],
-    part: &mut [u32],
-    notes: &mut [u16],
-    count: usize,
-    width: usize,
-    x: usize,
-    by: Remover,
-    free: Free,
-) -> usize
-    requires remove_lent { RemoveLent first.now width x by × AtMost 4000000000 first.now }
-    requires free_of { FreeOf by.mask width free × (free.count ≤ 2048) }
-    requires noted { Noted width first.now (x * width) part.old notes.old count }
-    ensures part_value { part.new ≡ shapes.remove_in width first.now by.other by.mask by.add x part.old }
-    ensures noted_2 { Noted width first.now (x * width) part.new notes.new result }
-    ensures same_length { SameLength part × SameLength notes }
+fn remove_by_halves(table: &Table, by: Remover, free: Free, part: &mut Part)
+    requires remove_lent { HalvesLent table.now by part.old }
+    requires free_of { FreeOf by.mask table.now.width free × (free.count ≤ 2048) }
+    ensures cells_value { part.new.cells.now ≡ remove_by table.now by part.old.point part.old.cells.now }
+    ensures same_part { SamePart part.old part.new }
 {
     if free.count <= 64 {
-        return remove_few(first, part, notes, count, width, x, by, free);
+        remove_in_rooms::<64, 128>(table, by, free, part);
+    } else {
+        remove_in_rooms::<2048, 4096>(table, by, free, part);
     }
-    remove_many(first, part, notes, count, width, x, by, free)
 }
 
 // The steps of a row by halves, about: for b bits some 3^b; none is taken where there is no room.
 fn steps_by_halves(n: usize) -> usize
     ensures { result < 1000000000 → n ≤ 2048 }
 {
-    if n <= 16 {
-        return 162;
+    match n {
+        0..=16 => 162,
+        17..=32 => 486,
+        33..=64 => 1458,
+        65..=128 => 4374,
+        129..=256 => 13122,
+        257..=512 => 39366,
+        513..=1024 => 118098,
+        1025..=2048 => 354294,
+        _ => 1000000000,
     }
-    if n <= 32 {
-        return 486;
-    }
-    if n <= 64 {
-        return 1458;
-    }
-    if n <= 128 {
-        return 4374;
-    }
-    if n <= 256 {
-        return 13122;
-    }
-    if n <= 512 {
-        return 39366;
-    }
-    if n <= 1024 {
-        return 118098;
-    }
-    if n <= 2048 {
-        return 354294;
-    }
-    1000000000
 }
 
-// No more than 4,096, so that a product of two fits.
-fn few(n: usize) -> usize
-    ensures { result ≤ 4096 }
-{
-    if n < 4096 {
-        return n;
-    }
-    4096
-}
-
-// The pairs of a and b, about.
+// The pairs of a and b, about: of each no more than 4,096, so that the product fits.
 fn few_pairs(a: usize, b: usize) -> usize
     ensures { result ≤ 16777216 }
 {
-    few(a) * few(b)
+    a.min(4096) * b.min(4096)
 }
 
 // The pairs of which one is raised, about.
-fn raised_pairs(counts: &[usize], x: usize, other: usize) -> usize
-    requires { (2 * x + 1 < length counts.now) × (2 * other + 1 < length counts.now) }
+fn raised_pairs(table: &Table, x: usize, other: usize) -> usize
+    requires { PointRows table.now x × PointRows table.now other }
     ensures { result ≤ 33554432 }
 {
-    few_pairs(counts[2 * x], counts[2 * other + 1])
-        + few_pairs(counts[2 * other], counts[2 * x + 1])
+    few_pairs(table.raised(x).len(), table.lines(other).len())
+        + few_pairs(table.raised(other).len(), table.lines(x).len())
 }
 
 fn free_places(width: usize, by: Remover) -> Free
@@ -212,36 +126,25 @@ fn free_places(width: usize, by: Remover) -> Free
     Free {
         count: width / times,
         low: by.low,
-        times: times,
+        times,
     }
 }
 
-// Rules 4 and 6 of a row of point x; gives the number of notes. Few pairs are tried one by one.
-pub fn remove_row(
-    first: &[u32],
-    lists: &[u16],
-    counts: &[usize],
-    part: &mut [u32],
-    notes: &mut [u16],
-    count: usize,
-    width: usize,
-    x: usize,
-    by: Remover,
-) -> usize
-    requires remove_lent { RemoveLent first.now width x by }
-    requires run { Run by.low by.mask width × AtMost 4000000000 first.now }
-    requires remove_rest { RemoveRest width first.now lists.now counts.now x by part.old }
-    requires noted { Noted width first.now (x * width) part.old notes.old count }
-    ensures part_value { part.new ≡ shapes.remove_in width first.now by.other by.mask by.add x part.old }
-    ensures noted_2 { Noted width first.now (x * width) part.new notes.new result }
-    ensures same_length { SameLength part × SameLength notes }
+// Rules 4 and 6 of a row of the part's point. Few pairs are tried one by one.
+pub fn remove_row(table: &Table, by: Remover, part: &mut Part)
+    requires remove_lent { HalvesLent table.now by part.old }
+    requires run { Run by.low by.mask table.now.width }
+    requires remove_rest { PairsRest table.now by part.old }
+    ensures cells_value { part.new.cells.now ≡ remove_by table.now by part.old.point part.old.cells.now }
+    ensures same_part { SamePart part.old part.new }
 {
-    let pairs = raised_pairs(counts, x, by.other);
-    if 2 * width < pairs {
-        let free = free_places(width, by);
+    let pairs = raised_pairs(table, part.point, by.other);
+    if 2 * table.width < pairs {
+        let free = free_places(table.width, by);
         if steps_by_halves(free.count) < pairs {
-            return remove_by_halves(first, part, notes, count, width, x, by, free);
+            remove_by_halves(table, by, free, part);
+            return;
         }
     }
-    remove_pairs(first, lists, counts, part, notes, count, width, x, by)
+    table.remove_pairs(by, part);
 }

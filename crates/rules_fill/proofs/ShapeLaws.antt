@@ -9,7 +9,8 @@ use lib.Bits.{bit_or, or_lt}
 use lib.Pow.{pow_pos, pow-lt, pow-add}
 use lib.Dec.{eqb}
 use borrow.Author.Tests.{eq-eqb, ne_eqb}
-use lib.ListN.{get_or}
+use lib.ListN.{get_or, take, drop}
+use lib.Seq.{get_or-take, get_or-drop}
 use Rattle.plan.specs.Plan.{Plan, width, cells}
 use Rattle.plan.proofs.LabelLaws.{four, four_pos}
 use Rattle.rules.specs.declared.Edge.TheVariants.{HorizonEdge}
@@ -110,6 +111,10 @@ step_made f t B C D e g = g ∙ ap (f t) e ∙ steps_more f t B
 
 pub done : (f : ℕ → List ℕ → List ℕ) (t n : ℕ) (B C : List ℕ) → C ≡ steps f t B → t ≡ n → C ≡ steps f n B
 done f t n B C e h = e ∙ ap (λ (k : ℕ). steps f k B) h
+
+-- a cell of a point's row
+pub row_cell : (F : List ℕ) (base w c v : ℕ) → v ≡ get_or (take (base + w - base) (drop base F)) c 0 → c < w → v ≡ get_or F (base + c) 0
+row_cell F base w c v e h = e ∙ get_or-take (base + w - base) (drop base F) c 0 (omega arith) ∙ get_or-drop base F c 0
 
 -- a step of a loop that begins at lo
 pub turn_from : (f : ℕ → List ℕ → List ℕ) (lo t : ℕ) (B C D : List ℕ) → lo ≤ t → C ≡ steps (λ i. f (lo + i)) (t - lo) B → D ≡ f t C → D ≡ steps (λ i. f (lo + i)) (t + 1 - lo) B

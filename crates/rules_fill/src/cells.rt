@@ -7,14 +7,14 @@ ghost use Rattle.rules_fill.specs.Parts.{laid_over};
 ghost use Rattle.rules_fill.specs.Cells.{JoinsIn, AllJoin, PropagatorLent, RemoverLent, RemoveAtLent, RemoveRunLent, remove_step_by, remove_steps_by};
 
 use crate::shapes::{Propagator, Remover, cleared, joined, propagated, removed, touches};
-use plan::{cell_at, widen_cell};
+use plan::cell_at;
 
 fn raise(part: &mut [u32], place: usize, wait: u64)
     requires { (place < length part.old) × (wait < 4294967296) }
     ensures part_value { part.new ≡ raise_cell place wait part.old }
     ensures same_length { SameLength part }
 {
-    if widen_cell(part[place]) < wait {
+    if u64::from(part[place]) < wait {
         part[place] = wait as u32;
     }
 }
@@ -25,9 +25,7 @@ pub fn copy_cells(source: &[u32], target: &mut [u32], n: usize)
     ensures target_value { target.new ≡ laid_over n source.now target.old }
     ensures same_length { SameLength target }
 {
-    for c in 0..n {
-        target[c] = source[c];
-    }
+    target[..n].copy_from_slice(&source[..n]);
 }
 
 // Rules 1 to 3, from all cells of one point.
@@ -44,9 +42,9 @@ pub fn propagate_in(
     ensures same_length { SameLength part }
 {
     let base = by.from * width;
-    for c in 0..width {
-        let wait = propagated(marks, by, mask, c, cell_at(first, base + c));
-        raise(part, joined(c, by.add), wait);
+    for (c, &wait) in first[base..base + width].iter().enumerate() {
+        let given = propagated(marks, by, mask, c, u64::from(wait));
+        raise(part, joined(c, by.add), given);
     }
 }
 
@@ -127,8 +125,8 @@ pub fn remove_in(first: &[u32], part: &mut [u32], width: usize, by: Remover, x: 
     ensures same_length { SameLength part }
 {
     let base = x * width;
-    for c in 0..width {
-        remove_cell(first, part, width, by, c, cell_at(first, base + c));
+    for (c, &wait) in first[base..base + width].iter().enumerate() {
+        remove_cell(first, part, width, by, c, u64::from(wait));
     }
 }
 
@@ -150,7 +148,7 @@ pub fn clear_in(first: &[u32], part: &mut [u32], width: usize, mask: usize, x: u
     ensures same_length { SameLength part }
 {
     let base = x * width;
-    for c in 0..width {
-        clear_cell(part, mask, c, cell_at(first, base + c));
+    for (c, &wait) in first[base..base + width].iter().enumerate() {
+        clear_cell(part, mask, c, u64::from(wait));
     }
 }

@@ -1,7 +1,7 @@
 // Filling one point's part of the second table, row by row.
 ghost use Rattle.std.specs.Prelude.{◌≡◌, ◌<◌, eqb};
 ghost use Rattle.plan.specs.Moments.{SameLength};
-ghost use Rattle.plan.specs.Layout.{plan_of, ends_at, row_of_edge};
+ghost use Rattle.plan.specs.Layout.{plan_of};
 ghost use Rattle.plan.specs.Horizons.{plan_with};
 ghost use Rattle.rules.specs.Derivations.{InPlan};
 ghost use Rattle.rules.specs.declared.Rule.TheVariants as rule;
@@ -16,8 +16,8 @@ use crate::rows::{
     digit_mask, edge_row, label_mask, letter_row, literal_row, lower_row, upper_row,
 };
 use plan::{
-    edge_from_at, edges, edges_at, link_activation, link_finish, links, observer, points,
-    propositions, width as point_width,
+    EdgeRows, edges, link_activation, link_finish, links, observer, points, propositions,
+    width as point_width,
 };
 use rules::Edge;
 
@@ -51,16 +51,16 @@ fn plan_edge_in(
     width: usize,
     mask: usize,
     x: usize,
-    ends: usize,
+    rows: &EdgeRows,
     i: usize,
 )
     requires rows_lent { RowsLent plan.now marks.now first.now part.old width mask }
-    requires ends_value { (ends ≡ ends_at plan.now (row_of_edge plan.now 0)) × (ends < 2048) }
+    requires rows_of { rows.now.plan.now ≡ plan.now }
     requires i_bound { i < (plan_of plan.now).edges }
     ensures part_value { part.new ≡ shapes.fill_edge (plan_with plan.now horizon) first.now x i part.old }
     ensures same_length { SameLength part }
 {
-    if edge_from_at(plan, ends, i) != x {
+    if rows.from(i) != x {
         return;
     }
     let e = Edge::PlanEdge(i);
@@ -82,9 +82,9 @@ fn fill_edges(
     ensures same_length { SameLength part }
 {
     let n = edges(plan);
-    let ends = edges_at(plan);
+    let rows = EdgeRows::new(plan);
     for i in 0..n {
-        plan_edge_in(plan, marks, horizon, first, part, width, mask, x, ends, i);
+        plan_edge_in(plan, marks, horizon, first, part, width, mask, x, &rows, i);
     }
 }
 

@@ -4,7 +4,7 @@ ghost use Rattle.std.specs.Int.Bits.{bit_or};
 ghost use Rattle.plan.specs.Label.{Marks};
 ghost use Rattle.rules_fill.specs.Shapes as shapes;
 
-use plan::{is_plain, lesser};
+use plan::is_plain;
 
 // Rules 1 to 3, by their row: every line of one point goes to another point, with bits added to its place, unless it has a bit to avoid.
 // The weight of the row is up less down.
@@ -100,5 +100,5 @@ pub fn removed(by: Remover, wait: u64, place: usize, other: u64) -> u64
     if !is_line(place, other) {
         return 0;
     }
-    lesser(wait, other + by.add)
+    wait.min(other + by.add)
 }

@@ -21,8 +21,8 @@ use Rattle.rules.specs.declared.Line.{Line}
 use Rattle.rules.proofs.Cells.{at_range}
 use Rattle.rules_ground.specs.declared.Frame.{Frame}
 use Rattle.rules_ground.specs.Grounds.{holds_line}
+use Rattle.rules_ground.specs.Rows.{cut_place}
 use Rattle.rules_ground.specs.Frames.{Framed, Fitting, line_with, LineMade, LineRead}
-use Rattle.rules_ground.specs.Searching.{cut_place}
 
 -- the code's line of cell c, by shifts and masks
 abbrev shifted : Frame → ℕ → ℕ → Line

@@ -2,7 +2,7 @@
 use mathlib.Core.Path.{◌≡◌, refl, sym, ap, ap₂, subst, ◌∙◌}
 use mathlib.Core.Bool.{Bool, true, false}
 use mathlib.Core.List.{List}
-use Prim.Native.Nat.{ℕ, ◌+◌, ◌-◌, ◌*◌, ◌≤◌, ◌<◌, min}
+use Prim.Native.Nat.{ℕ, ◌+◌, ◌-◌, ◌*◌, ◌≤◌, ◌<◌}
 use native.Mathlib.Nat.{zero-mod, add_assoc}
 use native.Mathlib.Omega.{arith}
 use lib.Bits.{bit_and, bit_or}
@@ -24,11 +24,11 @@ use Rattle.rules.proofs.Deriving.{fires_facts}
 use Rattle.rules.proofs.InRange.{InRange, result_range}
 use Rattle.rules.proofs.Cells.{cell_at, at_range}
 use Rattle.rules_apply.proofs.SameLines.{same_equal, equal_same}
-use Rattle.rules_fill.specs.Parents.{given_point, first_point, second_point}
+use Rattle.rules_fill.specs.Parents.{first_point, second_point}
 use Rattle.rules_ground.specs.Grounds.{holds_line, Grounds}
 use Rattle.rules_ground.specs.Places.{SomeWithin}
-use Rattle.rules_ground.specs.Rows.{place_of, removed_bits, up_of, down_of}
-use Rattle.rules_ground.specs.Searching.{cut_place, gives_with, SecondAt, FirstAt, ByRule}
+use Rattle.rules_ground.specs.Rows.{cut_place, place_of, removed_bits, up_of, down_of}
+use Rattle.rules_ground.specs.Searching.{gives_with, SecondAt, FirstAt, ByRule}
 use Rattle.rules_ground.proofs.PlaceLaws.{first_within, joined_second, second_joined, untouched, one_enough, one_waits, two_wait}
 
 -- ---- one pair of parents
@@ -104,12 +104,6 @@ module _ (P : Plan) (T : List ℕ) where
     pub short_first : (r : Rule) → uses_second r ≡ true → (v : ℕ) → v ≡ get_or T c 0 → v < k.wait → FirstAt P T k r c → ⊥
     short_first r t v e h f = omega (arith, two_wait P r t (line_at P T c) (line_at P T f.second), ap (λ (z : Line). z.wait) f.ground.gave)
 
-    pub other_wait_lem : (r : Rule) → uses_second r ≡ true → (d a b w n : ℕ) → a ≡ get_or T c 0 → b ≡ get_or T d 0 → w ≡ down_of P r → n ≡ min a (b + w) → (n ≡ k.wait → ⊥) → SecondAt P T k r c d → ⊥
-    other_wait_lem r t d a b w n ea eb ew en h g = h (en ∙ same ∙ sym (two_wait P r t (line_at P T c) (line_at P T d)) ∙ ap (λ (z : Line). z.wait) g.gave)
-      where
-        same : min a (b + w) ≡ min (get_or T c 0) (get_or T d 0 + down_of P r)
-        same = rw (ea, eb, ew) refl
-
     -- rules of one parent take their weight from its wait
     pub light_first : (r : Rule) → uses_second r ≡ false → (v u w : ℕ) → v ≡ get_or T c 0 → u ≡ up_of P r → w ≡ down_of P r → v + w < u → FirstAt P T k r c → ⊥
     light_first r t v u w ev eu ew h f = omega (arith, one_enough P r t (line_at P T c) (line_at P T f.second) f.ground.fire)
@@ -164,22 +158,6 @@ module _ (P : Plan) (T : List ℕ) where
             let s = joined_second K (t - bit_and t m) (place_of P n) (place_is ∙ joined ∙ ap (λ (a : ℕ). bit_or a (place_of P n)) (sym rest)) in
             let e : f.second ≡ z * w + place_of P n = cell_there f.second z (second_point_lem k (y * w + t) r _ _ u g.fire ∙ sym q) ∙ ap (λ (a : ℕ). z * a + place_of P n) (sym width_is) in
             record { index = bit_and (place_of P n) (t - bit_and t m); within = s.0; holds = subst (SecondAt P T k r (y * w + t)) (e ∙ ap (λ (a : ℕ). z * w + a) (sym s.1) ∙ sym (add_assoc (z * w) _ _)) g }
-
-    result_point : (r : Rule) (l m : Line) → result P r l m ≡ k → given_point P r k.point ≡ k.point
-    result_point (Propagation e) l m q = ap (λ (z : Line). z.point) q
-    result_point (LowerCase i) l m q = ap (λ (z : Line). z.point) q
-    result_point (UpperCase i) l m q = ap (λ (z : Line). z.point) q
-    result_point (LetterRemoval i) l m q = refl
-    result_point (OwnLiteral j) l m q = refl
-    result_point (LiteralRemoval j) l m q = refl
-
-    pub other_given : (r : Rule) (y : ℕ) → y ≡ given_point P r k.point → (y ≡ k.point → ⊥) → ByRule r P T k → ⊥
-    other_given r y e h b = h (e ∙ result_point r _ _ b.at_first.ground.gave)
-
-    pub other_observer : (j y : ℕ) → y ≡ P.observer j → (y ≡ k.point → ⊥) → ByRule (OwnLiteral j) P T k → ⊥
-    other_observer j y e h b =
-        let g = b.at_first.ground in
-        h (e ∙ sym (fires_facts P (OwnLiteral j) (line_at P T b.first) (line_at P T b.at_first.second) g.fire).0 ∙ ap (λ (z : Line). z.point) g.gave)
 
     pub no_point : WellFormed P → P.points ≤ k.point → (g : Ground) → Grounds P T k g → ⊥
     no_point wf h g s =

@@ -24,8 +24,7 @@ use Rattle.rules.proofs.InRange.{InRange, edge_range, result_range}
 use Rattle.rules.proofs.Cells.{digit_div, digit_mod}
 use Rattle.rules_fill.specs.Shapes.{link_bit, digit_mask}
 use Rattle.rules_ground.specs.Places.{Within}
-use Rattle.rules_ground.specs.Rows.{place_of, removed_bits, up_of, down_of}
-use Rattle.rules_ground.specs.Searching.{cut_place}
+use Rattle.rules_ground.specs.Rows.{cut_place, place_of, removed_bits, up_of, down_of}
 use Rattle.rules_ground.proofs.AnswerLaws.{false_true}
 use Rattle.rules_ground.proofs.NextLaws.{and_within, within_or, within_cleared}
 

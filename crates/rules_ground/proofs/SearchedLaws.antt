@@ -27,12 +27,11 @@ use Rattle.rules_fill.proofs.PointLaws.{first_in, second_in}
 use Rattle.rules_fill.proofs.ShapeLaws.{width_pow, width_pos as width_above, or_in, label_in, link_in_lem}
 use Rattle.rules_ground.specs.declared.Row.{Row}
 use Rattle.rules_ground.specs.declared.Frame.{Frame}
-use Rattle.rules_ground.specs.declared.Search.{Search}
-use Rattle.rules_ground.specs.Grounds.{Searchable}
+use Rattle.rules_ground.specs.declared.search.Search.{Search}
 use Rattle.rules_ground.specs.Frames.{Framed, LineRead}
 use Rattle.rules_ground.specs.Places.{Within, SomeWithin, Masked}
-use Rattle.rules_ground.specs.Rows.{removed_bits}
-use Rattle.rules_ground.specs.Searching.{cut_place, Searched, SearchFor, RowSearched, SecondAt, FirstAt, ByRule}
+use Rattle.rules_ground.specs.Rows.{cut_place, removed_bits}
+use Rattle.rules_ground.specs.Searching.{the_plan, RowSearched, SecondAt, FirstAt, ByRule}
 use Rattle.rules_ground.proofs.LineLaws.{cut_is}
 use Rattle.rules_ground.proofs.ParentLaws.{first_there, not_removed, second_there}
 
@@ -79,86 +78,78 @@ removed_in P (LetterRemoval i) h = link_in_lem P i h
 removed_in P (OwnLiteral j) h = digit_in P j h
 removed_in P (LiteralRemoval j) h = digit_in P j h
 
--- a search so made is one that the functions ask for
-pub searched : (bs marks T : List ℕ) (s : Search) (h : ℕ) (k : Line) → Searchable bs marks h T → SearchFor bs h k s → k.point < (plan_of bs).points → Searched bs marks T s
-searched bs marks T s h k lent made inside =
-    record { accepted = lent.accepted; marked = lent.marked; long = lent.long; horizon_is = made.horizon_is ∙ lent.horizon_is; width_is = made.width_is; framed = made.framed; place_is = made.place_is; point_in = subst (λ (z : Line). z.point < (plan_of bs).points) (sym made.line_is) inside }
-
 -- ---- a search
-module _ (bs marks T : List ℕ) (s : Search) (given : Searched bs marks T s) where
-  pub cell_in : (c : ℕ) → c < cells (plan_of bs) → c < length T
-  cell_in c h = omega (arith, given.long)
+module _ (s : Search) where
+  pub cell_in : (c : ℕ) → c < cells (the_plan s) → c < length s.table.now
+  cell_in c h = omega (arith, s.long)
 
   pub width_pos : 0 < s.width
-  width_pos = rw given.width_is (width_above (plan_of bs))
+  width_pos = rw s.width_is (width_above (the_plan s))
 
   -- what reading a cell's line asks for
-  pub cell_read : (c : ℕ) → c < cells (plan_of bs) → (c < length T) × (s.frame.bits < 64) × (s.frame.links < 64)
-  cell_read c h = (cell_in c h, given.framed.bits_small, given.framed.links_small)
+  pub cell_read : (c : ℕ) → c < cells (the_plan s) → (c < length s.table.now) × (s.frame.bits < 64) × (s.frame.links < 64)
+  cell_read c h = (cell_in c h, s.framed.bits_small, s.framed.links_small)
 
-  pub in_labels : (l : Line) (c : ℕ) → c < cells (plan_of bs) → LineRead T s.frame c l → InLabels (plan_of bs) l
+  pub in_labels : (l : Line) (c : ℕ) → c < cells (the_plan s) → LineRead s.table.now s.frame c l → InLabels (the_plan s) l
   in_labels l c h e = record {
-    label_in = subst (λ (z : Line). z.label < 4 ^ (plan_of bs).propositions) (sym (e.is_line (plan_of bs) given.framed)) (at_range (plan_of bs) T c h).label_in;
-    wait_in = omega (arith, (e.fits bs given.accepted given.framed h).wait_fits);
+    label_in = subst (λ (z : Line). z.label < 4 ^ (the_plan s).propositions) (sym (e.is_line (the_plan s) s.framed)) (at_range (the_plan s) s.table.now c h).label_in;
+    wait_in = omega (arith, (e.fits s.plan.now s.accepted s.framed h).wait_fits);
   }
 
   -- the cells of a point of the plan
-  point_fits : (x : ℕ) → x < (plan_of bs).points → (x * s.width + s.width ≤ cells (plan_of bs)) × (cells (plan_of bs) ≤ 16384)
-  point_fits x h = (rw given.width_is (rw suc-mul at (mul-le-mul_right (width (plan_of bs)) h)), (accepted_bounded bs given.accepted).cells_in)
+  point_fits : (x : ℕ) → x < (the_plan s).points → (x * s.width + s.width ≤ cells (the_plan s)) × (cells (the_plan s) ≤ 16384)
+  point_fits x h = (rw s.width_is (rw suc-mul at (mul-le-mul_right (width (the_plan s)) h)), (accepted_bounded s.plan.now s.accepted).cells_in)
 
   place_in : s.place < s.width
-  place_in = rw (given.place_is, given.width_is) (cut_in (plan_of bs) s.line)
+  place_in = rw (s.place_is, s.width_is) (cut_in (the_plan s) s.line)
 
   masked : (mask : ℕ) → mask < s.width → Masked mask s.width
-  masked mask h = record { bits = (plan_of bs).links + 2 * (plan_of bs).propositions; end_is = given.width_is ∙ sym (width_pow (plan_of bs)); small = rw given.width_is (width_small _ _ (sizes_few bs given.accepted).0 (sizes_few bs given.accepted).1); mask_in = h }
+  masked mask h = record { bits = (the_plan s).links + 2 * (the_plan s).propositions; end_is = s.width_is ∙ sym (width_pow (the_plan s)); small = rw s.width_is (width_small _ _ (sizes_few s.plan.now s.accepted).0 (sizes_few s.plan.now s.accepted).1); mask_in = h }
 
   -- a cell by its number from cell lo on
-  pub cell_from : (lo mask v : ℕ) → lo + mask < cells (plan_of bs) → Within mask v → (lo + v < cells (plan_of bs)) × (cells (plan_of bs) ≤ 16384)
-  cell_from lo mask v h w = (omega (arith, and_le_r v mask), (accepted_bounded bs given.accepted).cells_in)
+  pub cell_from : (lo mask v : ℕ) → lo + mask < cells (the_plan s) → Within mask v → (lo + v < cells (the_plan s)) × (cells (the_plan s) ≤ 16384)
+  cell_from lo mask v h w = (omega (arith, and_le_r v mask), (accepted_bounded s.plan.now s.accepted).cells_in)
 
 -- ---- a search by a rule whose row is known
-module _ (bs marks T : List ℕ) (s : Search) (r : Rule) (row : Row) (given : RowSearched bs marks T s r row) where
+module _ (s : Search) (r : Rule) (row : Row) (given : RowSearched s r row) where
   -- the first parent's point, for the line's point
-  first_is : row.first ≡ first_point (plan_of bs) r s.line.point
-  first_is = given.row_is.first_is ∙ same_first (plan_of bs) r _ _ given.given_is
+  first_is : row.first ≡ first_point (the_plan s) r s.line.point
+  first_is = given.row_is.first_is ∙ same_first (the_plan s) r _ _ given.given_is
 
-  first_fits : (row.first * s.width + s.width ≤ cells (plan_of bs)) × (cells (plan_of bs) ≤ 16384)
+  first_fits : (row.first * s.width + s.width ≤ cells (the_plan s)) × (cells (the_plan s) ≤ 16384)
   first_fits =
-      let q = given.searched in
-      point_fits bs marks T s q _ (rw first_is (first_in (plan_of bs) (accepted_well_formed bs q.accepted) T q.long s.line.point q.point_in r given.in_plan))
+      point_fits s _ (rw first_is (first_in (the_plan s) (accepted_well_formed s.plan.now s.accepted) s.table.now s.long s.line.point s.point_in r given.in_plan))
 
-  second_fits : (row.second * s.width + s.width ≤ cells (plan_of bs)) × (cells (plan_of bs) ≤ 16384)
+  second_fits : (row.second * s.width + s.width ≤ cells (the_plan s)) × (cells (the_plan s) ≤ 16384)
   second_fits =
-      let q = given.searched in
-      point_fits bs marks T s q _ (rw given.row_is.second_is (second_in (plan_of bs) (accepted_well_formed bs q.accepted) T q.long s.line.point q.point_in r given.in_plan))
+      point_fits s _ (rw given.row_is.second_is (second_in (the_plan s) (accepted_well_formed s.plan.now s.accepted) s.table.now s.long s.line.point s.point_in r given.in_plan))
 
   -- the cell at place t of the first parent's point
-  pub first_cell : (t : ℕ) → t < s.width → (row.first * s.width + t < cells (plan_of bs)) × (cells (plan_of bs) ≤ 16384)
+  pub first_cell : (t : ℕ) → t < s.width → (row.first * s.width + t < cells (the_plan s)) × (cells (the_plan s) ≤ 16384)
   first_cell t h = (omega (arith, first_fits.0), first_fits.1)
 
   -- the mask of the first parent's place
   pub first_masked : Masked (bit_or s.place row.removed) s.width
   first_masked =
-      let q = given.searched in
-      let h : row.removed < width (plan_of bs) = rw given.row_is.removed_is (removed_in (plan_of bs) r given.in_plan) in
-      masked bs marks T s q _ (rw q.width_is (or_in (plan_of bs) s.place row.removed (rw q.width_is at (place_in bs marks T s q)) h))
+      let h : row.removed < width (the_plan s) = rw given.row_is.removed_is (removed_in (the_plan s) r given.in_plan) in
+      masked s _ (rw s.width_is (or_in (the_plan s) s.place row.removed (rw s.width_is at (place_in s)) h))
 
   -- the second parent's place: the line's bits outside the first parent's rest, and some of those within
   module _ (rest : ℕ) where
     pub second_masked : Masked (bit_and s.place rest) s.width
-    second_masked = masked bs marks T s given.searched _ (omega (arith, and_le_l s.place rest, place_in bs marks T s given.searched))
+    second_masked = masked s _ (omega (arith, and_le_l s.place rest, place_in s))
 
-    pub second_inside : (row.second * s.width + (s.place - bit_and s.place rest) + bit_and s.place rest < cells (plan_of bs)) × (cells (plan_of bs) ≤ 16384)
-    second_inside = (omega (arith, and_le_l s.place rest, place_in bs marks T s given.searched, second_fits.0), second_fits.1)
+    pub second_inside : (row.second * s.width + (s.place - bit_and s.place rest) + bit_and s.place rest < cells (the_plan s)) × (cells (the_plan s) ≤ 16384)
+    second_inside = (omega (arith, and_le_l s.place rest, place_in s, second_fits.0), second_fits.1)
 
   -- where the parents lie
-  pub first_in_row : ByRule r (plan_of bs) T s.line → SomeWithin (λ t. FirstAt (plan_of bs) T s.line r (row.first * s.width + t)) (bit_or s.place row.removed)
-  first_in_row = first_there (plan_of bs) T s.line (accepted_well_formed bs given.searched.accepted) r given.in_plan _ _ _ _ first_is given.searched.width_is given.searched.place_is given.row_is.removed_is
+  pub first_in_row : ByRule r (the_plan s) s.table.now s.line → SomeWithin (λ t. FirstAt (the_plan s) s.table.now s.line r (row.first * s.width + t)) (bit_or s.place row.removed)
+  first_in_row = first_there (the_plan s) s.table.now s.line (accepted_well_formed s.plan.now s.accepted) r given.in_plan _ _ _ _ first_is s.width_is s.place_is given.row_is.removed_is
 
   module _ (takes : uses_second r ≡ true) (t : ℕ) where
-    pub removed_in_row : bit_and t row.removed ≡ 0 → FirstAt (plan_of bs) T s.line r (row.first * s.width + t) → ⊥
-    removed_in_row z f = not_removed (plan_of bs) T s.line (accepted_well_formed bs given.searched.accepted) r given.in_plan _ _ _ _ first_is given.searched.width_is given.searched.place_is given.row_is.removed_is t f takes z
+    pub removed_in_row : bit_and t row.removed ≡ 0 → FirstAt (the_plan s) s.table.now s.line r (row.first * s.width + t) → ⊥
+    removed_in_row z f = not_removed (the_plan s) s.table.now s.line (accepted_well_formed s.plan.now s.accepted) r given.in_plan _ _ _ _ first_is s.width_is s.place_is given.row_is.removed_is t f takes z
 
-    pub second_in_row : FirstAt (plan_of bs) T s.line r (row.first * s.width + t)
-        → SomeWithin (λ v. SecondAt (plan_of bs) T s.line r (row.first * s.width + t) (row.second * s.width + (s.place - bit_and s.place (t - bit_and t row.removed)) + v)) (bit_and s.place (t - bit_and t row.removed))
-    second_in_row f = second_there (plan_of bs) T s.line (accepted_well_formed bs given.searched.accepted) r given.in_plan _ _ _ _ first_is given.searched.width_is given.searched.place_is given.row_is.removed_is t f row.second takes given.row_is.second_is
+    pub second_in_row : FirstAt (the_plan s) s.table.now s.line r (row.first * s.width + t)
+        → SomeWithin (λ v. SecondAt (the_plan s) s.table.now s.line r (row.first * s.width + t) (row.second * s.width + (s.place - bit_and s.place (t - bit_and t row.removed)) + v)) (bit_and s.place (t - bit_and t row.removed))
+    second_in_row f = second_there (the_plan s) s.table.now s.line (accepted_well_formed s.plan.now s.accepted) r given.in_plan _ _ _ _ first_is s.width_is s.place_is given.row_is.removed_is t f row.second takes given.row_is.second_is

@@ -1,22 +1,17 @@
 -- A ground is by an edge, a horizon edge, a link or a proposition, so where no search of these finds one there is none.
-use mathlib.Core.Path.{◌≡◌, refl, sym, subst, ◌∙◌}
-use mathlib.Core.Bool.{Bool, true}
 use mathlib.Core.Logic.{inl, inr}
 use mathlib.Core.List.{List}
 use Prim.Native.Nat.{ℕ}
 use native.Mathlib.Omega.{arith}
+use Rattle.std.specs.Prelude.{Option, Some, None}
 use Rattle.plan.specs.Plan.{Plan}
 use Rattle.rules.specs.declared.Line.{Line}
+use Rattle.rules.specs.declared.Ground.{Ground}
 use Rattle.rules.specs.declared.Edge.TheVariants.{PlanEdge, HorizonEdge, UpperBound, LowerBound}
 use Rattle.rules.specs.declared.Rule.{Rule}
 use Rattle.rules.specs.declared.Rule.TheVariants.{Propagation, LowerCase, UpperCase, LetterRemoval, OwnLiteral, LiteralRemoval}
-use Rattle.rules_fill.specs.Parents.{given_point}
-use Rattle.rules_ground.specs.declared.Found.{Found}
-use Rattle.rules_ground.specs.declared.Found.TheVariants.{At, Nothing}
 use Rattle.rules_ground.specs.Grounds.{Tells}
-use Rattle.rules_ground.specs.Searching.{is_found, Answers, SecondAt, ByRule, ByEither, ByEdges, ByHorizonEdges, ByLinks, ByPropositions}
-use Rattle.rules_ground.proofs.AnswerLaws.{false_true}
-use Rattle.rules_ground.proofs.ParentLaws.{other_given}
+use Rattle.rules_ground.specs.Searching.{Answers, SecondAt, ByRule, ByEdges, ByHorizonEdges, ByLinks, ByPropositions}
 
 module _ (P : Plan) (T : List ℕ) (k : Line) where
   by_rule_lem : (r : Rule) (c d : ℕ) → SecondAt P T k r c d → ByRule r P T k
@@ -33,22 +28,6 @@ module _ (P : Plan) (T : List ℕ) (k : Line) where
   none_at_all e h l p (OwnLiteral j) c d g = p (record { index = j; from = omega arith; below = g.row; holds = inl (by_rule_lem (OwnLiteral j) c d g) })
   none_at_all e h l p (LiteralRemoval j) c d g = p (record { index = j; from = omega arith; below = g.row; holds = inr (by_rule_lem (LiteralRemoval j) c d g) })
 
-  -- horizon edges start at point 0
-  pub off_horizon : (k.point ≡ 0 → ⊥) → ByHorizonEdges P T k → ⊥
-  off_horizon h a = other_given P T k (Propagation (HorizonEdge a.index)) 0 refl (λ e. h (sym e)) a.holds
-
-  -- by one of two rules that give lines of another point
-  pub off_both : (r q : Rule) (y : ℕ) → y ≡ given_point P r k.point → y ≡ given_point P q k.point → (y ≡ k.point → ⊥) → ByEither r q P T k → ⊥
-  off_both r q y a b h (inl x) = other_given P T k r y a h x
-  off_both r q y a b h (inr x) = other_given P T k q y b h x
-
-  pub tells_found : {Q : Type 0} (f : Found) (b : Bool) → b ≡ is_found f → b ≡ true → Answers P T k Q f → Tells P T k f
-  tells_found (At g) b e t a = a.tells
-  tells_found Nothing b e t a = absurd (false_true (sym e ∙ t))
-
-  pub tells_all : (f : Found) → (ByEdges P T k → ⊥) → (ByHorizonEdges P T k → ⊥) → (ByLinks P T k → ⊥) → Answers P T k (ByPropositions P T k) f → Tells P T k f
-  tells_all (At g) e h l a = a.tells
-  tells_all Nothing e h l a = λ g. none_at_all e h l a.tells g.by g.first g.second
-
-pub tells_line : (P : Plan) (T : List ℕ) (k l : Line) (f : Found) → k ≡ l → Tells P T k f → Tells P T l f
-tells_line P T k l f e t = subst (λ (z : Line). Tells P T z f) e t
+  pub tells_all : (f : Option Ground) → (ByEdges P T k → ⊥) → (ByHorizonEdges P T k → ⊥) → (ByLinks P T k → ⊥) → Answers P T k (ByPropositions P T k) f → Tells P T k f
+  tells_all (Some g) e h l a = a.tells
+  tells_all None e h l a = λ g. none_at_all e h l a.tells g.by g.first g.second

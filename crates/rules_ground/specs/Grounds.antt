@@ -1,5 +1,5 @@
 -- For inner contracts only: a ground (10.3) is a rule with its row, and the parents from which it gives a line. Nothing here is to be believed: replay judges a listing's grounds.
-use Rattle.std.specs.Prelude.{◌≡◌, Bool, ◌||◌, List, ℕ, ◌%◌, ◌<◌, T as Is, ltb, eqb, length, get_or}
+use Rattle.std.specs.Prelude.{◌≡◌, Bool, ◌||◌, List, ℕ, ◌%◌, ◌<◌, T as Is, ltb, eqb, length, get_or, Option, Some, None}
 use Rattle.plan.specs.Label.{Marks}
 use Rattle.plan.specs.Plan.{Plan, width, cells}
 use Rattle.plan.specs.Layout.{plan_of}
@@ -9,8 +9,6 @@ use Rattle.rules.specs.declared.Ground.{Ground}
 use Rattle.rules.specs.Lines.{line_at}
 use Rattle.rules.specs.Rules.{fires, result}
 use Rattle.rules.specs.Derivations.{InPlan}
-use Rattle.rules_ground.specs.declared.Found.{Found}
-use Rattle.rules_ground.specs.declared.Found.TheVariants.{At, Nothing}
 
 -- a cell that holds a line: it is above 0, or a point's starting cell
 unfoldable pub holds_line : Plan → List ℕ → ℕ → Bool
@@ -34,6 +32,6 @@ pub record Grounds (P : Plan) (T : List ℕ) (k : Line) (g : Ground) : Type 0 wh
   pub gave : result P g.by (line_at P T g.first) (line_at P T g.second) ≡ k
 
 -- what is found is a ground, and nothing is found only where there is none
-abbrev pub Tells : Plan → List ℕ → Line → Found → Type 0
-Tells P T k (At g) = Grounds P T k g
-Tells P T k Nothing = (g : Ground) → Grounds P T k g → ⊥
+abbrev pub Tells : Plan → List ℕ → Line → Option Ground → Type 0
+Tells P T k (Some g) = Grounds P T k g
+Tells P T k None = (g : Ground) → Grounds P T k g → ⊥

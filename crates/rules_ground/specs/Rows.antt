@@ -1,5 +1,5 @@
 -- For inner contracts only: what the search knows of a rule's row. Nothing here is to be believed.
-use Rattle.std.specs.Prelude.{◌≡◌, ℕ, ◌+◌, ◌*◌, ◌^◌, ◌<◌}
+use Rattle.std.specs.Prelude.{◌≡◌, ℕ, ◌+◌, ◌*◌, ◌%◌, ◌^◌, ◌<◌}
 use Rattle.plan.specs.Plan.{Plan}
 use Rattle.rules.specs.declared.Line.{Line}
 use Rattle.rules.specs.declared.Rule.{Rule}
@@ -12,6 +12,10 @@ use Rattle.rules_ground.specs.declared.Row.{Row}
 -- a line's place among its point's cells
 abbrev pub place_of : Plan → Line → ℕ
 place_of P l = l.set * 4 ^ P.propositions + l.label
+
+-- the same with its set and label cut to the plan's
+abbrev pub cut_place : Plan → Line → ℕ
+cut_place P l = l.set % 2 ^ P.links * 4 ^ P.propositions + l.label % 4 ^ P.propositions
 
 -- the bits that a rule removes from its first parent's place
 abbrev pub removed_bits : Plan → Rule → ℕ

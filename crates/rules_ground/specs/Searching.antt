@@ -1,10 +1,9 @@
 -- For inner contracts only: what the parts of the search are lent and answer. Nothing here is to be believed: the whole answers `Tells`.
-use Rattle.std.specs.Prelude.{◌≡◌, Bool, true, false, ◌&&◌, ◌⊎◌, List, ℕ, ◌+◌, ◌*◌, ◌%◌, ◌^◌, ◌≤◌, ◌<◌, length}
-use Rattle.plan.specs.Label.{Marks}
-use Rattle.plan.specs.Plan.{Plan, width, cells}
+use Rattle.std.specs.Prelude.{◌≡◌, Bool, true, ◌&&◌, ◌⊎◌, List, ℕ, ◌+◌, ◌≤◌, ◌<◌, Option, Some, None}
+use Rattle.plan.specs.Plan.{Plan, cells}
 use Rattle.plan.specs.Layout.{plan_of}
-use Rattle.plan.specs.Refusal.{Accepted}
 use Rattle.rules.specs.declared.Line.{Line}
+use Rattle.rules.specs.declared.Ground.{Ground}
 use Rattle.rules.specs.declared.Edge.{Edge}
 use Rattle.rules.specs.declared.Edge.TheVariants.{PlanEdge, HorizonEdge, UpperBound, LowerBound}
 use Rattle.rules.specs.declared.Rule.{Rule}
@@ -14,78 +13,52 @@ use Rattle.rules.specs.Rules.{constraint_of, uses_second}
 use Rattle.rules.specs.Derivations.{InPlan}
 use Rattle.rules_apply.specs.Applying.{gives_line_of}
 use Rattle.rules_fill.specs.Parents.{given_point}
-use Rattle.rules_ground.specs.declared.Found.{Found}
-use Rattle.rules_ground.specs.declared.Found.TheVariants.{At, Nothing}
 use Rattle.rules_ground.specs.declared.Row.{Row}
-use Rattle.rules_ground.specs.declared.Search.{Search}
-use Rattle.rules_ground.specs.Frames.{Framed}
+use Rattle.rules_ground.specs.declared.search.Search.{Search}
 use Rattle.rules_ground.specs.Grounds.{holds_line, Grounds}
 use Rattle.rules_ground.specs.Places.{SomeWithin, Masked}
 use Rattle.rules_ground.specs.Rows.{down_of, RowOf}
 
 -- ---- what a search is lent
--- the place of a line, its set and label cut to the plan's
-abbrev pub cut_place : Plan → Line → ℕ
-cut_place P l = l.set % 2 ^ P.links * 4 ^ P.propositions + l.label % 4 ^ P.propositions
-
--- an accepted plan, its table, the marks, and a search over them for a line of one of its points
-pub record Searched (plan marks table : List ℕ) (s : Search) : Type 0 where
-  pub accepted : Accepted plan
-  pub marked : Marks marks
-  pub long : length table ≡ cells (plan_of plan)
-  pub horizon_is : s.horizon ≡ (plan_of plan).horizon
-  pub width_is : s.width ≡ width (plan_of plan)
-  pub framed : Framed (plan_of plan) s.frame
-  pub place_is : s.place ≡ cut_place (plan_of plan) s.line
-  pub point_in : s.line.point < (plan_of plan).points
-
--- a search made for a line
-pub record SearchFor (plan : List ℕ) (horizon : ℕ) (line : Line) (s : Search) : Type 0 where
-  pub horizon_is : s.horizon ≡ horizon
-  pub width_is : s.width ≡ width (plan_of plan)
-  pub framed : Framed (plan_of plan) s.frame
-  pub place_is : s.place ≡ cut_place (plan_of plan) s.line
-  pub line_is : s.line ≡ line
+abbrev pub the_plan : Search → Plan
+the_plan s = plan_of s.plan.now
 
 -- by an edge that starts at the line's point
-pub record EdgeSearched (plan marks table : List ℕ) (s : Search) (e : Edge) : Type 0 where
-  pub searched : Searched plan marks table s
-  pub row : InPlan (plan_of plan) (Propagation e)
-  pub from_is : (constraint_of (plan_of plan) e).from ≡ s.line.point
+pub record EdgeSearched (s : Search) (e : Edge) : Type 0 where
+  pub row : InPlan (the_plan s) (Propagation e)
+  pub from_is : (constraint_of (the_plan s) e).from ≡ s.line.point
 
 -- by a rule with its row, at cell c
-pub record CellSearched (plan marks table : List ℕ) (s : Search) (by : Rule) (c : ℕ) : Type 0 where
-  pub searched : Searched plan marks table s
-  pub row : InPlan (plan_of plan) by
-  pub inside : c < cells (plan_of plan)
+pub record CellSearched (s : Search) (by : Rule) (c : ℕ) : Type 0 where
+  pub row : InPlan (the_plan s) by
+  pub inside : c < cells (the_plan s)
 
 -- at cells c and d
-pub record PairSearched (plan marks table : List ℕ) (s : Search) (by : Rule) (c d : ℕ) : Type 0 where
-  pub at_first : CellSearched plan marks table s by c
-  pub second_in : d < cells (plan_of plan)
+pub record PairSearched (s : Search) (by : Rule) (c d : ℕ) : Type 0 where
+  pub at_first : CellSearched s by c
+  pub second_in : d < cells (the_plan s)
 
 -- at cell c, by a rule that takes a second parent and adds down to its wait
-pub record SecondSearched (plan marks table : List ℕ) (s : Search) (by : Rule) (down c : ℕ) : Type 0 where
-  pub at_first : CellSearched plan marks table s by c
+pub record SecondSearched (s : Search) (by : Rule) (down c : ℕ) : Type 0 where
+  pub at_first : CellSearched s by c
   pub takes : uses_second by ≡ true
-  pub down_is : down ≡ down_of (plan_of plan) by
+  pub down_is : down ≡ down_of (the_plan s) by
   pub down_small : down < 65536
 
 -- from cell lo on, numbers from there within the mask
-pub record SecondMasked (plan : List ℕ) (s : Search) (lo mask : ℕ) : Type 0 where
+pub record SecondMasked (s : Search) (lo mask : ℕ) : Type 0 where
   pub masked : Masked mask s.width
-  pub inside : lo + mask < cells (plan_of plan)
+  pub inside : lo + mask < cells (the_plan s)
 
 -- by a rule whose row is known and gives lines of the line's point
-pub record RowSearched (plan marks table : List ℕ) (s : Search) (by : Rule) (row : Row) : Type 0 where
-  pub searched : Searched plan marks table s
-  pub in_plan : InPlan (plan_of plan) by
-  pub row_is : RowOf (plan_of plan) by row
-  pub given_is : given_point (plan_of plan) by row.first ≡ s.line.point
+pub record RowSearched (s : Search) (by : Rule) (row : Row) : Type 0 where
+  pub in_plan : InPlan (the_plan s) by
+  pub row_is : RowOf (the_plan s) by row
+  pub given_is : given_point (the_plan s) by row.first ≡ s.line.point
 
 -- with the first parent at place t
-pub record PlaceSearched (plan marks table : List ℕ) (s : Search) (by : Rule) (row : Row) (t : ℕ) : Type 0 where
-  pub by_row : RowSearched plan marks table s by row
+pub record PlaceSearched (s : Search) (by : Rule) (row : Row) (t : ℕ) : Type 0 where
+  pub by_row : RowSearched s by row
   pub place_in : t < s.width
 
 -- whether the rule gives k from the line l and the line of cell d
@@ -93,16 +66,12 @@ abbrev pub gives_with : Plan → List ℕ → Line → Rule → Line → ℕ →
 gives_with P T k r l d = holds_line P T d && gives_line_of P r l (line_at P T d) k
 
 -- ---- answers
-abbrev pub is_found : Found → Bool
-is_found (At g) = true
-is_found Nothing = false
-
 -- what is found is a ground, and nothing is found only where Q fails
-abbrev pub TellsOf : Plan → List ℕ → Line → Type 0 → Found → Type 0
-TellsOf P T k Q (At g) = Grounds P T k g
-TellsOf P T k Q Nothing = Q → ⊥
+abbrev pub TellsOf : Plan → List ℕ → Line → Type 0 → Option Ground → Type 0
+TellsOf P T k Q (Some g) = Grounds P T k g
+TellsOf P T k Q None = Q → ⊥
 
-pub record Answers (P : Plan) (T : List ℕ) (k : Line) (Q : Type 0) (f : Found) : Type 0 where
+pub record Answers (P : Plan) (T : List ℕ) (k : Line) (Q : Type 0) (f : Option Ground) : Type 0 where
   pub tells : TellsOf P T k Q f
 
 -- some number from lo on and below hi has F
@@ -126,8 +95,8 @@ abbrev pub Sought : Type 1
 Sought = Plan → List ℕ → Line → Type 0
 
 -- the answer to a search
-abbrev pub Finds : List ℕ → List ℕ → Search → Sought → Found → Type 0
-Finds plan T s Q f = Answers (plan_of plan) T s.line (Q (plan_of plan) T s.line) f
+abbrev pub Finds : Search → Sought → Option Ground → Type 0
+Finds s Q f = Answers (the_plan s) s.table.now s.line (Q (the_plan s) s.table.now s.line) f
 
 -- by the rule, with the lines of cells c and d as its parents; with that of cell c as the first; and with a second from cell lo on within the mask
 abbrev pub ByPair : Rule → ℕ → ℕ → Sought

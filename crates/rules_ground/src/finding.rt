@@ -1,229 +1,169 @@
 // The search for a ground, over the rules with their rows.
 ghost use Rattle.std.specs.Prelude.{◌≡◌, ◌<◌};
-ghost use Rattle.plan.specs.Layout.{plan_of, ends_at, row_of_edge};
-ghost use Rattle.plan.specs.Refusal.{Accepted};
+ghost use Rattle.plan.specs.Layout.{plan_of};
 ghost use Rattle.rules.specs.declared.Edge.TheVariants as edge;
 ghost use Rattle.rules.specs.declared.Rule.TheVariants as rule;
 ghost use Rattle.rules_ground.specs.Grounds.{Searchable, Tells};
-ghost use Rattle.rules_ground.specs.Searching.{Searched, SearchFor, EdgeSearched, Finds, ByRule, ByActivation, ByFinish, ByLink, ByProposition, ByEdges, ByHorizonEdges, ByLinks, ByPropositions};
+ghost use Rattle.rules_ground.specs.Searching.{the_plan, EdgeSearched, Finds, ByRule, ByActivation, ByFinish, ByLink, ByProposition, ByEdges, ByHorizonEdges, ByLinks, ByPropositions};
 
-use crate::lines::frame_of;
-use crate::parents::{find_by, is_found};
+use crate::Search;
 use crate::rows::{edge_row, letter_row, literal_row, lower_row, own_row, upper_row};
-use crate::{Found, Search};
-use plan::{
-    edge_from_at, edges, edges_at, labels, link_activation, link_finish, links, observer, points,
-    propositions, width,
-};
-use rules::{Edge, Line, Rule};
+use plan::{EdgeRows, edges, link_activation, link_finish, links, observer, points, propositions};
+use rules::{Edge, Ground, Line, Rule};
 
-// A ground by an edge that starts at the line's point.
-fn find_along(plan: &[u8], marks: &[u8; 256], table: &[u32], s: Search, e: Edge) -> Found
-    requires { EdgeSearched plan.now marks.now table.now s e }
-    ensures { Finds plan.now table.now s (ByRule (rule.Propagation e)) result }
-{
-    let row = edge_row(plan, s.horizon, e);
-    find_by(plan, marks, table, s, Rule::Propagation(e), row)
-}
-
-fn find_by_edge(
-    plan: &[u8],
-    marks: &[u8; 256],
-    table: &[u32],
-    s: Search,
-    ends: usize,
-    i: usize,
-) -> Found
-    requires searched { Searched plan.now marks.now table.now s × (i < (plan_of plan.now).edges) }
-    requires ends_value { (ends ≡ ends_at plan.now (row_of_edge plan.now 0)) × (ends < 2048) }
-    ensures { Finds plan.now table.now s (ByRule (rule.Propagation (edge.PlanEdge i))) result }
-{
-    if edge_from_at(plan, ends, i) != s.line.point {
-        return Found::Nothing;
+impl Search<'_> {
+    // A ground by an edge that starts at the line's point.
+    fn find_along(&self, e: Edge) -> Option<Ground>
+        requires { EdgeSearched self.now e }
+        ensures { Finds self.now (ByRule (rule.Propagation e)) result }
+    {
+        self.find_by(Rule::Propagation(e), edge_row(self.plan, self.horizon, e))
     }
-    find_along(plan, marks, table, s, Edge::PlanEdge(i))
-}
 
-fn find_in_edges(plan: &[u8], marks: &[u8; 256], table: &[u32], s: Search) -> Found
-    requires { Searched plan.now marks.now table.now s }
-    ensures { Finds plan.now table.now s ByEdges result }
-{
-    let n = edges(plan);
-    let ends = edges_at(plan);
-    for i in 0..n {
-        let found = find_by_edge(plan, marks, table, s, ends, i);
-        if is_found(found) {
-            return found;
+    fn find_by_edge(&self, rows: &EdgeRows, i: usize) -> Option<Ground>
+        requires edge_in { i < (the_plan self.now).edges }
+        requires rows_of { rows.now.plan.now ≡ self.now.plan.now }
+        ensures { Finds self.now (ByRule (rule.Propagation (edge.PlanEdge i))) result }
+    {
+        if rows.from(i) != self.line.point {
+            return None;
         }
+        self.find_along(Edge::PlanEdge(i))
     }
-    Found::Nothing
-}
 
-// Horizon edges start at point 0.
-fn find_in_horizon_edges(plan: &[u8], marks: &[u8; 256], table: &[u32], s: Search) -> Found
-    requires { Searched plan.now marks.now table.now s }
-    ensures { Finds plan.now table.now s ByHorizonEdges result }
-{
-    if s.line.point != 0 {
-        return Found::Nothing;
+    fn find_in_edges(&self) -> Option<Ground>
+        ensures { Finds self.now ByEdges result }
+    {
+        let n = edges(self.plan);
+        let rows = EdgeRows::new(self.plan);
+        (0..n).find_map(|i| self.find_by_edge(&rows, i))
     }
-    let n = points(plan);
-    for x in 1..n {
-        let found = find_along(plan, marks, table, s, Edge::HorizonEdge(x));
-        if is_found(found) {
-            return found;
+
+    // Horizon edges start at point 0.
+    fn find_in_horizon_edges(&self) -> Option<Ground>
+        ensures { Finds self.now ByHorizonEdges result }
+    {
+        if self.line.point != 0 {
+            return None;
         }
+        let n = points(self.plan);
+        (1..n).find_map(|x| self.find_along(Edge::HorizonEdge(x)))
     }
-    Found::Nothing
-}
 
-// A ground by the upper bound of link i or by rule 2: they give lines of its activation.
-fn find_at_activation(plan: &[u8], marks: &[u8; 256], table: &[u32], s: Search, i: usize) -> Found
-    requires { Searched plan.now marks.now table.now s × (i < (plan_of plan.now).links) }
-    ensures { Finds plan.now table.now s (ByActivation i) result }
-{
-    if link_activation(plan, i) != s.line.point {
-        return Found::Nothing;
-    }
-    let bound = find_along(plan, marks, table, s, Edge::UpperBound(i));
-    if is_found(bound) {
-        return bound;
-    }
-    let row = lower_row(plan, i);
-    find_by(plan, marks, table, s, Rule::LowerCase(i), row)
-}
-
-// A ground by the lower bound of link i or by rule 3: they give lines of its end.
-fn find_at_finish(plan: &[u8], marks: &[u8; 256], table: &[u32], s: Search, i: usize) -> Found
-    requires { Searched plan.now marks.now table.now s × (i < (plan_of plan.now).links) }
-    ensures { Finds plan.now table.now s (ByFinish i) result }
-{
-    if link_finish(plan, i) != s.line.point {
-        return Found::Nothing;
-    }
-    let bound = find_along(plan, marks, table, s, Edge::LowerBound(i));
-    if is_found(bound) {
-        return bound;
-    }
-    let row = upper_row(plan, i);
-    find_by(plan, marks, table, s, Rule::UpperCase(i), row)
-}
-
-// A ground by one link: at its activation, at its end, or by rule 4.
-fn find_by_link(plan: &[u8], marks: &[u8; 256], table: &[u32], s: Search, i: usize) -> Found
-    requires { Searched plan.now marks.now table.now s × (i < (plan_of plan.now).links) }
-    ensures { Finds plan.now table.now s (ByLink i) result }
-{
-    let start = find_at_activation(plan, marks, table, s, i);
-    if is_found(start) {
-        return start;
-    }
-    let end = find_at_finish(plan, marks, table, s, i);
-    if is_found(end) {
-        return end;
-    }
-    let row = letter_row(plan, i, s.line.point);
-    find_by(plan, marks, table, s, Rule::LetterRemoval(i), row)
-}
-
-fn find_in_links(plan: &[u8], marks: &[u8; 256], table: &[u32], s: Search) -> Found
-    requires { Searched plan.now marks.now table.now s }
-    ensures { Finds plan.now table.now s ByLinks result }
-{
-    let n = links(plan);
-    for i in 0..n {
-        let found = find_by_link(plan, marks, table, s, i);
-        if is_found(found) {
-            return found;
+    // A ground by the upper bound of link i or by rule 2: they give lines of its activation.
+    fn find_at_activation(&self, i: usize) -> Option<Ground>
+        requires { i < (the_plan self.now).links }
+        ensures { Finds self.now (ByActivation i) result }
+    {
+        if link_activation(self.plan, i) != self.line.point {
+            return None;
         }
-    }
-    Found::Nothing
-}
-
-// A ground by rule 5, which gives lines of the observing point.
-fn find_own(plan: &[u8], marks: &[u8; 256], table: &[u32], s: Search, j: usize) -> Found
-    requires { Searched plan.now marks.now table.now s × (j < (plan_of plan.now).propositions) }
-    ensures { Finds plan.now table.now s (ByRule (rule.OwnLiteral j)) result }
-{
-    if observer(plan, j) != s.line.point {
-        return Found::Nothing;
-    }
-    let row = own_row(plan, j, s.line.point);
-    find_by(plan, marks, table, s, Rule::OwnLiteral(j), row)
-}
-
-// A ground by one proposition.
-fn find_by_proposition(plan: &[u8], marks: &[u8; 256], table: &[u32], s: Search, j: usize) -> Found
-    requires { Searched plan.now marks.now table.now s × (j < (plan_of plan.now).propositions) }
-    ensures { Finds plan.now table.now s (ByProposition j) result }
-{
-    let own = find_own(plan, marks, table, s, j);
-    if is_found(own) {
-        return own;
-    }
-    let row = literal_row(plan, j, s.line.point);
-    find_by(plan, marks, table, s, Rule::LiteralRemoval(j), row)
-}
-
-fn find_in_propositions(plan: &[u8], marks: &[u8; 256], table: &[u32], s: Search) -> Found
-    requires { Searched plan.now marks.now table.now s }
-    ensures { Finds plan.now table.now s ByPropositions result }
-{
-    let n = propositions(plan);
-    for j in 0..n {
-        let found = find_by_proposition(plan, marks, table, s, j);
-        if is_found(found) {
-            return found;
+        if let Some(ground) = self.find_along(Edge::UpperBound(i)) {
+            return Some(ground);
         }
+        self.find_by(Rule::LowerCase(i), lower_row(self.plan, i))
     }
-    Found::Nothing
-}
 
-// A ground by any rule, for a line of one of the plan's points.
-fn find_any(plan: &[u8], marks: &[u8; 256], table: &[u32], s: Search) -> Found
-    requires { Searched plan.now marks.now table.now s }
-    ensures { Tells (plan_of plan.now) table.now s.line result }
-{
-    let edge = find_in_edges(plan, marks, table, s);
-    if is_found(edge) {
-        return edge;
+    // A ground by the lower bound of link i or by rule 3: they give lines of its end.
+    fn find_at_finish(&self, i: usize) -> Option<Ground>
+        requires { i < (the_plan self.now).links }
+        ensures { Finds self.now (ByFinish i) result }
+    {
+        if link_finish(self.plan, i) != self.line.point {
+            return None;
+        }
+        if let Some(ground) = self.find_along(Edge::LowerBound(i)) {
+            return Some(ground);
+        }
+        self.find_by(Rule::UpperCase(i), upper_row(self.plan, i))
     }
-    let horizon = find_in_horizon_edges(plan, marks, table, s);
-    if is_found(horizon) {
-        return horizon;
-    }
-    let link = find_in_links(plan, marks, table, s);
-    if is_found(link) {
-        return link;
-    }
-    find_in_propositions(plan, marks, table, s)
-}
 
-// A set or a label too large for the plan is cut to one of its own: no ground gives such a line.
-fn search_for(plan: &[u8], horizon: u64, line: Line) -> Search
-    requires { Accepted plan.now }
-    ensures { SearchFor plan.now horizon line result }
-{
-    let frame = frame_of(plan);
-    let set = line.set & frame.sets;
-    let label = line.label & frame.labels;
-    Search {
-        horizon: horizon,
-        frame: frame,
-        width: width(plan),
-        place: set * labels(plan) + label,
-        line: line,
+    // A ground by one link: at its activation, at its end, or by rule 4.
+    fn find_by_link(&self, i: usize) -> Option<Ground>
+        requires { i < (the_plan self.now).links }
+        ensures { Finds self.now (ByLink i) result }
+    {
+        if let Some(ground) = self.find_at_activation(i) {
+            return Some(ground);
+        }
+        if let Some(ground) = self.find_at_finish(i) {
+            return Some(ground);
+        }
+        self.find_by(
+            Rule::LetterRemoval(i),
+            letter_row(self.plan, i, self.line.point),
+        )
+    }
+
+    fn find_in_links(&self) -> Option<Ground>
+        ensures { Finds self.now ByLinks result }
+    {
+        let n = links(self.plan);
+        (0..n).find_map(|i| self.find_by_link(i))
+    }
+
+    // A ground by rule 5, which gives lines of the observing point.
+    fn find_own(&self, j: usize) -> Option<Ground>
+        requires { j < (the_plan self.now).propositions }
+        ensures { Finds self.now (ByRule (rule.OwnLiteral j)) result }
+    {
+        if observer(self.plan, j) != self.line.point {
+            return None;
+        }
+        self.find_by(Rule::OwnLiteral(j), own_row(self.plan, j, self.line.point))
+    }
+
+    // A ground by one proposition.
+    fn find_by_proposition(&self, j: usize) -> Option<Ground>
+        requires { j < (the_plan self.now).propositions }
+        ensures { Finds self.now (ByProposition j) result }
+    {
+        if let Some(ground) = self.find_own(j) {
+            return Some(ground);
+        }
+        self.find_by(
+            Rule::LiteralRemoval(j),
+            literal_row(self.plan, j, self.line.point),
+        )
+    }
+
+    fn find_in_propositions(&self) -> Option<Ground>
+        ensures { Finds self.now ByPropositions result }
+    {
+        let n = propositions(self.plan);
+        (0..n).find_map(|j| self.find_by_proposition(j))
+    }
+
+    // A ground by any rule, for a line of one of the plan's points.
+    fn find_any(&self) -> Option<Ground>
+        ensures { Tells (the_plan self.now) self.now.table.now self.now.line result }
+    {
+        if let Some(ground) = self.find_in_edges() {
+            return Some(ground);
+        }
+        if let Some(ground) = self.find_in_horizon_edges() {
+            return Some(ground);
+        }
+        if let Some(ground) = self.find_in_links() {
+            return Some(ground);
+        }
+        self.find_in_propositions()
     }
 }
 
 // A rule with its row, and cells of the table whose lines the rule gives just this line from, or nothing where there are none.
-pub fn find_ground(plan: &[u8], marks: &[u8; 256], horizon: u64, table: &[u32], line: Line) -> Found
+pub fn find_ground(
+    plan: &[u8],
+    marks: &[u8; 256],
+    horizon: u64,
+    table: &[u32],
+    line: Line,
+) -> Option<Ground>
     requires { Searchable plan.now marks.now horizon table.now }
     ensures { Tells (plan_of plan.now) table.now line result }
 {
     if points(plan) <= line.point {
-        return Found::Nothing;
+        return None;
     }
-    let s = search_for(plan, horizon, line);
-    find_any(plan, marks, table, s)
+    Search::new(plan, marks, horizon, table, line).find_any()
 }

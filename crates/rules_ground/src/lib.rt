@@ -6,20 +6,14 @@ mod lines;
 mod parents;
 mod places;
 mod rows;
+mod search;
 
 pub use finding::find_ground;
 pub use lines::{frame_of, line_at, line_with};
-use rules::{Ground, Line};
-
-// A ground whose parents are cells of a table, or nothing.
-#[derive(Clone, Copy)]
-pub enum Found {
-    At(Ground),
-    Nothing,
-}
+use search::Search;
 
 // What takes a cell apart: the number of links, the bits of a label, and the masks of a set and of a label.
-#[derive(Clone, Copy)]
+#[derive(Clone, Copy, PartialEq, Eq)]
 pub struct Frame {
     pub links: usize,
     pub bits: usize,
@@ -27,19 +21,9 @@ pub struct Frame {
     pub labels: usize,
 }
 
-// The line that is looked for and its place among its point's cells, with the plan's horizon, its frame and the cells of a point.
-#[derive(Clone, Copy)]
-pub struct Search {
-    pub horizon: u64,
-    pub frame: Frame,
-    pub width: usize,
-    pub place: usize,
-    pub line: Line,
-}
-
 // A rule's row: the points of its parents, the bits that it removes from its first parent's place, and the weight, up less down.
 // Rules of one parent take the weight from its wait; rules 4 and 6 have no up and add down to their second parent's wait.
-#[derive(Clone, Copy)]
+#[derive(Clone, Copy, PartialEq, Eq)]
 pub struct Row {
     pub first: usize,
     pub second: usize,

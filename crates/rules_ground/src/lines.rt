@@ -15,10 +15,7 @@ pub fn holds_line(table: &[u32], width: usize, c: usize) -> bool
     requires { (c < length table.now) × (0 < width) }
     ensures { (P : Plan) → width ≡ width_of P → result ≡ holds_line P table.now c }
 {
-    if 0 < table[c] {
-        return true;
-    }
-    c & (width - 1) == 0
+    table[c] > 0 || c & (width - 1) == 0
 }
 
 pub fn frame_of(plan: &[u8]) -> Frame
@@ -44,7 +41,7 @@ pub fn line_with(frame: Frame, c: usize, wait: u64) -> Line
         point: high >> frame.links,
         set: high & frame.sets,
         label: c & frame.labels,
-        wait: wait,
+        wait,
     }
 }
 

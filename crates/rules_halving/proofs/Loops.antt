@@ -1,34 +1,33 @@
 -- What the loops over a run hold so far.
 use mathlib.Core.Path.{◌≡◌, refl, sym, ap, ◌∙◌}
-use mathlib.Core.List.{List}
-use Prim.Native.Nat.{ℕ, ◌+◌, ◌≤◌, ◌<◌, min, max}
+use mathlib.Core.Bool.{Bool, true}
+use mathlib.Core.Logic.{◌⊎◌, inl, inr}
+use mathlib.Core.List.{List, [], ◌∷◌}
+use Prim.Native.Nat.{ℕ, zero, suc, ◌+◌, ◌-◌, ◌≤◌, ◌<◌, min, max}
 use native.Mathlib.Nat.{zero-add}
 use native.Mathlib.Decide.{ℕ_discrete}
 use native.Mathlib.Omega.{arith}
-use lib.ListN.{length, get_or, take, set, length-set}
-use lib.Seq.{get_or-set_same, get_or-set_other, take-set-le, get_or-take}
-use Rattle.rules_halving.specs.Products.{NoneAbove, NoneBelow, JoinLent, Joined, pair_wait}
+use lib.ListN.{length, get_or, take, drop, set, length-set, length-drop}
+use lib.Seq.{get_or-set_same, get_or-set_other, take-set-le, get_or-take, get_or-drop, length-take-le}
+use Rattle.std.specs.List.{fold}
+use Rattle.rules_halving.specs.Products.{PairsLent, PairGives, Product, NothingNew, JoinLent, Joined, pair_wait}
 
 -- ---- the greatest and the least
-pub none_above_none : (A : List ℕ) (from m : ℕ) → NoneAbove A from 0 m
-none_above_none A from m = record { at_most = λ i h. absurd (omega arith) }
-
-pub none_above_more : (A : List ℕ) (from i m r : ℕ) → NoneAbove A from i m → r ≡ max m (get_or A (from + i) 0) → NoneAbove A from (i + 1) r
-none_above_more A from i m r l e = record { at_most = λ j h. at j h (ℕ_discrete j i) }
+pub at_most : (A : List ℕ) (m : ℕ) → (m ≤ fold max m A) × ((i : ℕ) → i < length A → get_or A i 0 ≤ fold max m A)
+at_most [] m = (omega arith, λ i h. absurd (omega arith))
+at_most (x ∷ xs) m = let r = at_most xs (max m x) in (omega (arith, r.0), at r)
   where
-    at : (j : ℕ) → j < i + 1 → Dec (j ≡ i) → get_or A (from + j) 0 ≤ r
-    at j h (yes q) = rw q (omega arith)
-    at j h (no q) = omega (arith, l.at_most j (omega arith))
+    at : (max m x ≤ fold max (max m x) xs) × ((i : ℕ) → i < length xs → get_or xs i 0 ≤ fold max (max m x) xs) → (i : ℕ) → i < length (x ∷ xs) → get_or (x ∷ xs) i 0 ≤ fold max (max m x) xs
+    at r zero h = omega (arith, r.0)
+    at r (suc i) h = r.1 i (omega arith)
 
-pub none_below_none : (A : List ℕ) (m : ℕ) → NoneBelow A 0 m
-none_below_none A m = record { at_least = λ i h. absurd (omega arith) }
-
-pub none_below_more : (A : List ℕ) (i m r : ℕ) → NoneBelow A i m → r ≡ min m (get_or A i 0) → NoneBelow A (i + 1) r
-none_below_more A i m r l e = record { at_least = λ j h. at j h (ℕ_discrete j i) }
+pub at_least : (A : List ℕ) (m : ℕ) → (fold min m A ≤ m) × ((i : ℕ) → i < length A → fold min m A ≤ get_or A i 0)
+at_least [] m = (omega arith, λ i h. absurd (omega arith))
+at_least (x ∷ xs) m = let r = at_least xs (min m x) in (omega (arith, r.0), at r)
   where
-    at : (j : ℕ) → j < i + 1 → Dec (j ≡ i) → r ≤ get_or A j 0
-    at j h (yes q) = rw q (omega arith)
-    at j h (no q) = omega (arith, l.at_least j (omega arith))
+    at : (fold min (min m x) xs ≤ min m x) × ((i : ℕ) → i < length xs → fold min (min m x) xs ≤ get_or xs i 0) → (i : ℕ) → i < length (x ∷ xs) → fold min (min m x) xs ≤ get_or (x ∷ xs) i 0
+    at r zero h = omega (arith, r.0)
+    at r (suc i) h = r.1 i (omega arith)
 
 -- ---- the greater of each two, as far as m
 pub record JoinedTo (G : List ℕ) (from n top m : ℕ) (G' : List ℕ) : Type 0 where
@@ -61,19 +60,36 @@ joined_more G from n top i G' v lent h l e = record { greater = λ j k. at j k (
     at j k (no q) = get_or-set_other G' (top + i) (top + j) v 0 (λ x. q (omega (arith, x))) ∙ l.greater j (omega arith)
 
 -- ---- at the end
-pub all_above : (A : List ℕ) (from n i m : ℕ) → i ≡ n → NoneAbove A from i m → NoneAbove A from n m
-all_above A from n i m e l = rw e at l
-
-pub all_below : (A : List ℕ) (n i m : ℕ) → i ≡ n → NoneBelow A i m → NoneBelow A n m
-all_below A n i m e l = rw e at l
-
 pub all_joined : (G : List ℕ) (from n top i : ℕ) (G' : List ℕ) → i ≡ n → JoinedTo G from n top i G' → Joined G from n top G'
 all_joined G from n top i G' e l = record { greater = λ j h. l.greater j (omega arith); same_below = l.same_below }
 
 -- ---- a pair gives at most the greatest of each run
-pub nothing_new : (n : ℕ) (F G : List ℕ) (from : ℕ) (H : List ℕ) (f g m l : ℕ) → NoneAbove F 0 n f → NoneAbove G from n g → m ≡ min f g → NoneBelow H n l → m ≤ l
-    → (a b c : ℕ) → a < n → b < n → c < n → pair_wait F G from a b ≤ get_or H c 0
+pub nothing_new : {n : ℕ} {F G H : List ℕ} (lent : PairsLent n F G 0 H) (m : ℕ) → m ≡ min (fold max 0 F) (fold max 0 G) → m ≤ fold min 4294967295 H
+    → (a b c : ℕ) → a < n → b < n → c < n → pair_wait F G 0 a b ≤ get_or H c 0
 unfolding pair_wait
-nothing_new n F G from H f g m l above_first above_second e below h a b c i j k =
-    let first : get_or F a 0 ≤ f = rw zero-add at (above_first.at_most a i) in
-    omega (arith, first, above_second.at_most b j, below.at_least c k)
+nothing_new {n} {F} {G} {H} lent m e below a b c i j k =
+    omega (arith, (at_most F 0).1 a (omega (arith, lent.long_first)), (at_most G 0).1 (0 + b) (omega (arith, lent.long_second)), (at_least H 4294967295).1 c (omega (arith, lent.long_third)))
+
+-- ---- a run within a list, by itself
+abbrev pub run : List ℕ → ℕ → ℕ → List ℕ
+run G from n = take (from + n - from) (drop from G)
+
+pub run_long : {n : ℕ} {F G : List ℕ} {from : ℕ} {H : List ℕ} → PairsLent n F G from H → length (run G from n) ≡ n
+run_long {n} {F} {G} {from} l = length-take-le (from + n - from) (drop from G) (omega (arith, length-drop from G, l.long_second)) ∙ omega arith
+
+pub run_lent : {n : ℕ} {F G : List ℕ} {from : ℕ} {H : List ℕ} → PairsLent n F G from H → PairsLent n F (run G from n) 0 H
+run_lent l = record { power = l.power; power_is = l.power_is; long_first = l.long_first; long_second = omega (arith, run_long l); long_third = l.long_third }
+
+same_wait : (F G : List ℕ) (from n a b : ℕ) → b < n → pair_wait F (run G from n) 0 a b ≡ pair_wait F G from a b
+unfolding pair_wait
+same_wait F G from n a b h = ap (min (get_or F a 0)) (ap (λ (i : ℕ). get_or (run G from n) i 0) (zero-add b) ∙ get_or-take (from + n - from) (drop from G) b 0 (omega arith) ∙ get_or-drop from G b 0)
+
+pub run_product : {n : ℕ} {F G : List ℕ} {from : ℕ} {H H' : List ℕ} → Product n F (run G from n) 0 H H' → Product n F G from H H'
+run_product {n} {F} {G} {from} {H} {H'} p = record { no_lower = p.no_lower; covers = λ a b h k. rw (same_wait F G from n a b k) at (p.covers a b h k); reason = λ c h. to c (p.reason c h) }
+  where
+    to : (c : ℕ) → (get_or H' c 0 ≡ get_or H c 0) ⊎ PairGives n F (run G from n) 0 c (get_or H' c 0) → (get_or H' c 0 ≡ get_or H c 0) ⊎ PairGives n F G from c (get_or H' c 0)
+    to c (inl e) = inl e
+    to c (inr g) = inr (record { a = g.a; b = g.b; a_below = g.a_below; b_below = g.b_below; joined = g.joined; wait = g.wait ∙ same_wait F G from n g.a g.b g.b_below })
+
+pub run_no_more : {n : ℕ} (F G : List ℕ) (from : ℕ) {H : List ℕ} {r : Bool} → r ≡ true → NothingNew n F (run G from n) 0 H r → (a b c : ℕ) → a < n → b < n → c < n → pair_wait F G from a b ≤ get_or H c 0
+run_no_more {n} F G from e l a b c i j k = rw (same_wait F G from n a b j) at (l.no_more e a b c i j k)

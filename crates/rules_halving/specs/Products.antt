@@ -54,13 +54,6 @@ pub record Joined (G : List ℕ) (from n top : ℕ) (G' : List ℕ) : Type 0 whe
   pub greater : (i : ℕ) → i < n → get_or G' (top + i) 0 ≡ max (get_or G (from + i) 0) (get_or G (from + (n + i)) 0)
   pub same_below : take top G' ≡ take top G
 
--- none of n waits is above m, or below it
-pub record NoneAbove (A : List ℕ) (from n m : ℕ) : Type 0 where
-  pub at_most : (i : ℕ) → i < n → get_or A (from + i) 0 ≤ m
-
-pub record NoneBelow (A : List ℕ) (n m : ℕ) : Type 0 where
-  pub at_least : (i : ℕ) → i < n → m ≤ get_or A i 0
-
 -- where it holds, no pair gives more than any place of H has
 pub record NothingNew (n : ℕ) (F G : List ℕ) (from : ℕ) (H : List ℕ) (r : Bool) : Type 0 where
   pub no_more : r ≡ true → (a b c : ℕ) → a < n → b < n → c < n → pair_wait F G from a b ≤ get_or H c 0

@@ -1,42 +1,80 @@
--- A loop over listed places under way: the steps of the places passed are made, and the cells that they raised are noted.
-use mathlib.Core.Path.{◌≡◌, refl, ap, ◌∙◌}
+-- A loop over listed places under way: the steps of the places passed are made, and the part is the same beside.
+use mathlib.Core.Path.{◌≡◌, refl, sym, ap, subst, ◌∙◌}
 use mathlib.Core.List.{List}
-use Prim.Native.Nat.{ℕ, ◌+◌, ◌<◌}
-use lib.ListN.{length, get_or}
-use Rattle.rules_fill.proofs.StepLaws.{steps_none}
+use Prim.Native.Nat.{ℕ, ◌+◌, ◌*◌, ◌≤◌, ◌<◌}
+use native.Mathlib.Nat.{zero-add}
+use native.Mathlib.Omega.{arith}
+use lib.ListN.{length, get_or, drop, length-drop}
+use lib.Seq.{get_or-take, get_or-drop, length-take-le}
+use Rattle.rules_fill.proofs.StepLaws.{steps_none, steps_alike}
 use Rattle.rules_fill.proofs.ShapeLaws.{step_made, done}
-use Rattle.rules_listed.specs.Places.{Places, listed}
-use Rattle.rules_listed.specs.Notes.{Noted}
+use Rattle.rules_listed.specs.declared.part.Part.{Part}
+use Rattle.rules_listed.specs.declared.table.Table.{Table}
+use Rattle.rules_listed.specs.Places.{Places, entries, listed}
+use Rattle.rules_listed.specs.Rows.{CellsRow}
+use Rattle.rules_listed.specs.Parts.{cells, SamePart, PartOf}
+use Rattle.rules_listed.proofs.Having.{noted_had}
 
-pub record Going (f : ℕ → List ℕ → List ℕ) (L : List ℕ) (a w : ℕ) (F : List ℕ) (own : ℕ) (B₀ N₀ : List ℕ) (i : ℕ) (B N : List ℕ) (k : ℕ) : Type 0 where
-  pub made : B ≡ listed f L a i B₀
-  pub noted : Noted w F own B N k
-  pub part_as_long : length B ≡ length B₀
-  pub notes_as_long : length N ≡ length N₀
+-- ---- the entries of a row
+pub entry_at : (L : List ℕ) (a n i : ℕ) → i < n → get_or (entries L a n) i 0 ≡ get_or L (a + i) 0
+entry_at L a n i h = get_or-take n (drop a L) i 0 h ∙ get_or-drop a L i 0
 
--- the place that entry i holds, where the entries begin at s
-pub place_in : {L : List ℕ} {a n w : ℕ} → Places L a n w → (s i t : ℕ) → i < n → s ≡ a → t ≡ get_or L (s + i) 0 → t < w
-place_in p s i t k h at = rw (at, h) (p.within i k)
+pub entries_long : (L : List ℕ) (a n : ℕ) → a + n ≤ length L → length (entries L a n) ≡ n
+entries_long L a n h = length-take-le n (drop a L) (omega (arith, length-drop a L))
 
-module _ {f : ℕ → List ℕ → List ℕ} {L : List ℕ} {a w : ℕ} {F : List ℕ} {own : ℕ} {B₀ N₀ : List ℕ} where
-  pub going_none : {k : ℕ} → Noted w F own B₀ N₀ k → Going f L a w F own B₀ N₀ 0 B₀ N₀ k
+-- the place that entry i holds
+pub place_in : {L : List ℕ} {a n w : ℕ} → Places L a n w → {s : List ℕ} → s ≡ entries L a n → (i t : ℕ) → i < length s → t ≡ get_or s i 0 → t < w
+place_in {L} {a} {n} {w} p {s} e i t h at =
+    let k : i < n = omega (arith, entries_long L a n p.long, ap (λ (q : List ℕ). length q) e) in
+    omega (arith, at, ap (λ (q : List ℕ). get_or q i 0) e, entry_at L a n i k, p.within i k)
+
+-- the wait of a cell of point y
+pub cell_of : (t : Table) (y u v : ℕ) {s : List ℕ} → s ≡ cells t y → u < t.width → v ≡ get_or s u 0 → v ≡ get_or t.first.now (y * t.width + u) 0
+cell_of t y u v e h at = at ∙ ap (λ (q : List ℕ). get_or q u 0) e ∙ entry_at t.first.now (y * t.width) t.width u h
+
+-- ---- parts
+pub same_part : (p : Part) → SamePart p p
+same_part p = record { point = refl; own = refl; cells_kept = refl; notes_kept = refl; cells_as_long = refl; notes_as_long = refl }
+
+pub same_then : {p q r : Part} → SamePart p q → SamePart q r → SamePart p r
+same_then s t = record { point = t.point ∙ s.point; own = t.own ∙ s.own; cells_kept = t.cells_kept ∙ s.cells_kept; notes_kept = t.notes_kept ∙ s.notes_kept; cells_as_long = t.cells_as_long ∙ s.cells_as_long; notes_as_long = t.notes_as_long ∙ s.notes_as_long }
+
+pub still_of : {t : Table} {p q : Part} → PartOf t p → SamePart p q → PartOf t q
+still_of {t} o s = record { row_in = subst (CellsRow t) (sym s.point) o.row_in; own_is = ap (λ b. b.now) s.own ∙ o.own_is ∙ ap (cells t) (sym s.point) }
+
+-- it has a place for each of the table's
+pub own_long : {t : Table} {p : Part} → PartOf t p → length p.own.now ≡ t.width
+own_long {t} {p} o = ap (λ (q : List ℕ). length q) o.own_is ∙ entries_long t.first.now (p.point * t.width) t.width o.row_in
+
+pub place_fits : {t : Table} {p q : Part} → PartOf t p → SamePart p q → (u : ℕ) → u < t.width → u < length q.own.now
+place_fits o s u h = omega (arith, h, own_long (still_of o s))
+
+pub cells_long : {t : Table} {p : Part} → PartOf t p → t.width ≤ length p.cells.now
+cells_long {p = p} o = omega (arith, own_long o, (noted_had p.noted).part_long)
+
+-- ---- the loop
+pub record Going (f : ℕ → List ℕ → List ℕ) (s : List ℕ) (old : Part) (i : ℕ) (now : Part) : Type 0 where
+  pub made : now.cells.now ≡ listed f s 0 i old.cells.now
+  pub same : SamePart old now
+
+module _ {f : ℕ → List ℕ → List ℕ} {s : List ℕ} {old : Part} where
+  pub going_none : Going f s old 0 old
   unfolding listed
-  going_none n = record { made = steps_none _ B₀; noted = n; part_as_long = refl; notes_as_long = refl }
+  going_none = record { made = steps_none _ old.cells.now; same = same_part old }
 
-  module _ {i : ℕ} {B N : List ℕ} {k : ℕ} (g : Going f L a w F own B₀ N₀ i B N k) where
-    -- a step that leaves D, with the notes M
-    pub going_on : (s t : ℕ) → s ≡ a → t ≡ get_or L (s + i) 0 → {D M : List ℕ} {j : ℕ} → D ≡ f t B → Noted w F own D M j → length D ≡ length B → length M ≡ length N → Going f L a w F own B₀ N₀ (i + 1) D M j
+  module _ {i : ℕ} {now : Part} (g : Going f s old i now) where
+    -- a step at the entry's place
+    pub going_on : (t : ℕ) → t ≡ get_or s i 0 → {next : Part} → next.cells.now ≡ f t now.cells.now → SamePart now next → Going f s old (i + 1) next
     unfolding listed
-    going_on s t h at {D} e n d m = record { made = step_made (λ v. f (get_or L (a + v) 0)) i B₀ B D g.made (e ∙ ap (λ (u : ℕ). f u B) (at ∙ ap (λ (v : ℕ). get_or L (v + i) 0) h)); noted = n; part_as_long = d ∙ g.part_as_long; notes_as_long = m ∙ g.notes_as_long }
+    going_on t at {next} e same = record { made = step_made (λ v. f (get_or s (0 + v) 0)) i old.cells.now now.cells.now next.cells.now g.made (e ∙ ap (λ (u : ℕ). f u now.cells.now) (at ∙ ap (λ (v : ℕ). get_or s v 0) (sym (zero-add i)))); same = same_then g.same same }
 
     -- a step that leaves all as it is
-    pub going_past : (s t : ℕ) → s ≡ a → t ≡ get_or L (s + i) 0 → B ≡ f t B → Going f L a w F own B₀ N₀ (i + 1) B N k
-    going_past s t h at e = going_on s t h at e g.noted refl refl
+    pub going_past : (t : ℕ) → t ≡ get_or s i 0 → now.cells.now ≡ f t now.cells.now → Going f s old (i + 1) now
+    going_past t at e = going_on t at e (same_part now)
 
-    -- the same part and notes, held in other words
-    pub going_by : {B' N' : List ℕ} {k' : ℕ} → B' ≡ B → N' ≡ N → k' ≡ k → Going f L a w F own B₀ N₀ i B' N' k'
-    going_by p q r = rw (p, q, r) g
-
-    pub gone : (n : ℕ) → i ≡ n → B ≡ listed f L a n B₀
+    -- all of a row's
+    pub gone : (L : List ℕ) (a n : ℕ) → s ≡ entries L a n → a + n ≤ length L → i ≡ length s → now.cells.now ≡ listed f L a n old.cells.now
     unfolding listed
-    gone n h = done (λ v. f (get_or L (a + v) 0)) i n B₀ B g.made h
+    gone L a n e long h =
+        done (λ v. f (get_or s (0 + v) 0)) i n old.cells.now now.cells.now g.made (h ∙ ap (λ (q : List ℕ). length q) e ∙ entries_long L a n long)
+        ∙ steps_alike (λ v. f (get_or s (0 + v) 0)) (λ v. f (get_or L (a + v) 0)) n (λ v k A. ap (λ (u : ℕ). f u A) (ap (λ (q : List ℕ). get_or q (0 + v) 0) e ∙ ap (λ (u : ℕ). get_or (entries L a n) u 0) (zero-add v) ∙ entry_at L a n v k)) old.cells.now

@@ -1,6 +1,9 @@
 pub mod Counting
+pub mod Having
 mod Noting
-mod Going
+pub mod Going
+mod Lending
+pub mod Owning
 pub mod Passing
 mod Removing
 mod Rests

@@ -95,15 +95,17 @@ module _ (w : ℕ) (F L : List ℕ) (by : Remover) (x : ℕ) where
       go true e = sym (when_false (not (touches by.mask u)) _ A (ap not e)) ∙ sym (steps_idle _ n (λ i h C. sym (raise_none C _ _ (omega (arith, pair_none (get_or L ((2 * x + 1) * w + i) 0) u e)))) A)
       go false e = sym (when_true (not (touches by.mask u)) _ A (ap not e)) ∙ listed_alike _ (λ t. pair t u) L ((2 * x + 1) * w) n (own_pair u) A
 
-  pub remove_all : (counts B C D : List ℕ) → AllJoin w → w ≤ length B → RemoveRest w F L counts x by B
+  pub remove_all : (counts B C D : List ℕ) → AllJoin w → w ≤ length B
+      → Places L (2 * x * w) (get_or counts (2 * x) 0) w → Places L ((2 * by.other + 1) * w) (get_or counts (2 * by.other + 1) 0) w
+      → Places L (2 * by.other * w) (get_or counts (2 * by.other) 0) w → Places L ((2 * x + 1) * w) (get_or counts (2 * x + 1) 0) w → RemoveRest w F L counts x by B
       → C ≡ listed (remove_with w F L by (get_or counts (2 * by.other + 1) 0) x) L (2 * x * w) (get_or counts (2 * x) 0) B
       → D ≡ listed (remove_other_with w F L by (get_or counts (2 * x + 1) 0) x) L (2 * by.other * w) (get_or counts (2 * by.other) 0) C
       → D ≡ remove_in w F by.other by.mask by.add x B
   unfolding remove_in
-  remove_all counts B C D joins long r e g =
+  remove_all counts B C D joins long own_raised other_lines other_raised own_lines r e g =
       let first = listed_alike (remove_with w F L by (get_or counts (2 * by.other + 1) 0) x) (λ t. listed (pair t) L ((2 * by.other + 1) * w) (get_or counts (2 * by.other + 1) 0)) L (2 * x * w) (get_or counts (2 * x) 0) (with_pairs (get_or counts (2 * by.other + 1) 0)) B in
       g ∙ ap (listed (remove_other_with w F L by (get_or counts (2 * x + 1) 0) x) L (2 * by.other * w) (get_or counts (2 * by.other) 0)) (e ∙ first)
       ∙ listed_alike (remove_other_with w F L by (get_or counts (2 * x + 1) 0) x) (λ u. listed (λ t. pair t u) L ((2 * x + 1) * w) (get_or counts (2 * x + 1) 0)) L (2 * by.other * w) (get_or counts (2 * by.other) 0) (other_pairs (get_or counts (2 * x + 1) 0)) _
       ∙ pairs_all pair_place pair_wait w L (2 * x * w) (get_or counts (2 * x) 0) ((2 * by.other + 1) * w) (get_or counts (2 * by.other + 1) 0) (2 * by.other * w) (get_or counts (2 * by.other) 0) ((2 * x + 1) * w) (get_or counts (2 * x + 1) 0) B
-      (λ t u h k. omega (arith, joins (cleared t by.mask) u (omega (arith, cleared_le t by.mask)) k)) r.own_raised r.other_lines r.other_raised r.own_lines r.rest
+      (λ t u h k. omega (arith, joins (cleared t by.mask) u (omega (arith, cleared_le t by.mask)) k)) own_raised other_lines other_raised own_lines r.rest
       ∙ steps_alike (λ t. steps (pair t) w) (remove_from w F by.other by.mask by.add x) w (λ t h A. sym (from_pairs t A)) B

@@ -1,4 +1,6 @@
 pub mod Places
+pub mod Rows
 pub mod Notes
-pub mod Listed
+pub mod Parts
 pub mod Rests
+pub mod Listed

@@ -1,5 +1,5 @@
 -- For inner contracts only: lists of places, and loops over them. Nothing here is to be believed.
-use Rattle.std.specs.Prelude.{◌≡◌, Bool, cond, List, ℕ, zero, suc, ◌+◌, ◌≤◌, ◌<◌, length, get_or}
+use Rattle.std.specs.Prelude.{◌≡◌, Bool, cond, List, ℕ, zero, suc, ◌+◌, ◌≤◌, ◌<◌, length, get_or, take, drop}
 use Rattle.rules_fill.specs.Steps.{steps}
 
 -- one of the n entries of a list from entry a on is t
@@ -12,6 +12,10 @@ pub record Listed (L : List ℕ) (a n t : ℕ) : Type 0 where
 pub record Places (L : List ℕ) (a n w : ℕ) : Type 0 where
   pub long : a + n ≤ length L
   pub within : (i : ℕ) → i < n → get_or L (a + i) 0 < w
+
+-- these entries
+abbrev pub entries : List ℕ → ℕ → ℕ → List ℕ
+entries L a n = take n (drop a L)
 
 -- a step for each of the n places from entry a on
 unfoldable pub listed : (ℕ → List ℕ → List ℕ) → List ℕ → ℕ → ℕ → List ℕ → List ℕ

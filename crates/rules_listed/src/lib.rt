@@ -2,7 +2,8 @@
 #![tactic(auto)]
 
 mod listed;
-mod notes;
+mod part;
+mod table;
 
-pub use listed::{clear_raised, propagate_raised, remove_pairs};
-pub use notes::raise;
+pub use part::Part;
+pub use table::Table;

@@ -149,15 +149,7 @@ module _ (P : Plan) (A L counts : List ℕ) (x w : ℕ) (width_is : w ≡ width 
         → ((t u : ℕ) → t < width P → u < width P → OrListed (width P) L counts x o t u (removes m a t (get_or A (x * width P + t) 0) u (get_or A (o * width P + u) 0) ≤ get_or A (x * width P + bit_or (cleared t m) u) 0))
         → RemoveRest w A L counts x by B
     remove_rest o m a by e1 e2 e3 other_in given =
-        let own = lists.of_point x inside in
-        let other = lists.of_point o other_in in
         record {
-          counts_long = omega (arith, lists.counts_long);
-          other_counts_long = rw e1 (omega (arith, lists.counts_long));
-          own_raised = rw width_is own.raised_places;
-          own_lines = rw width_is own.line_places;
-          other_raised = rw (e1, width_is) other.raised_places;
-          other_lines = rw (e1, width_is) other.line_places;
           rest = λ t u h k. rw (e1, e2, e3) (go t u h k (given t u (rw width_is at h) (rw width_is at k)));
         }
       where

@@ -8,6 +8,7 @@ use native.Mathlib.Nat.{le_trans}
 use native.Mathlib.Omega.{arith}
 use lib.Bits.{bit_or, or_zero_r}
 use lib.ListN.{get_or}
+use Rattle.rules_rows.specs.declared.rows.Rows.{Rows}
 use Rattle.plan.specs.Plan.{Plan, width}
 use Rattle.plan.specs.Horizons.{plan_with}
 use Rattle.plan.proofs.Ranges.{WellFormed, accepted_bounded}
@@ -50,6 +51,6 @@ module _ (P : Plan) (wf : WellFormed P) (few : P.propositions ≤ 4) (A L counts
   unfolding fill_horizon edge_in_step propagate_in propagate_step
   horizon_idle = steps_stay _ (P.points - 1) B (λ y h. steps_stay _ (width P) B (λ t k. sym (raise_none B _ _ (given_held (suc y) (omega arith) (omega arith) t k))))
 
-pub none_over_idle : {bs M : List ℕ} {horizon : ℕ} {F L counts rows : List ℕ} {w mask x : ℕ} → RefillLent bs M horizon F L counts rows w mask x → {B N : List ℕ} {count : ℕ} → Noted w F (x * w) B N count → {over : Bool} → NoneOver (plan_with bs horizon) F L counts over → over ≡ false → x ≡ 0 → B ≡ fill_horizon (plan_with bs horizon) F B
+pub none_over_idle : {bs M : List ℕ} {horizon : ℕ} {F L counts : List ℕ} {rows : Rows} {w mask x : ℕ} → RefillLent bs M horizon F L counts rows w mask x → {B N : List ℕ} {count : ℕ} → Noted w F (x * w) B N count → {over : Bool} → NoneOver (plan_with bs horizon) F L counts over → over ≡ false → x ≡ 0 → B ≡ fill_horizon (plan_with bs horizon) F B
 none_over_idle {bs} {M} {horizon} {F} {L} {counts} {rows} {w} {mask} {x} lent {B} noted under off e =
     sym (horizon_idle (plan_with bs horizon) (lent_well_formed lent) (accepted_bounded bs lent.accepted).propositions_in F L counts lent.lists_are.covered (under.none off) B (λ c h. rw (e, lent.numbers.width_is) at (noted.no_lower c (rw lent.numbers.width_is h))))

@@ -1,4 +1,6 @@
 mod Covering
+mod TableOf
+mod Refills
 mod Refilling
 mod Removals
 mod EdgeWalk

@@ -9,6 +9,7 @@ use lib.Dec.{T as Is, ltb, eqb}
 use lib.Bits.{bit_and}
 use lib.ListN.{get_or}
 use borrow.Author.Tests.{ltb-true, ltb-false, lt-ltb, le-ltb}
+use Rattle.rules_rows.specs.declared.rows.Rows.{Rows}
 use Rattle.plan.specs.Plan.{Plan, width}
 use Rattle.plan.specs.Layout.{plan_of}
 use Rattle.plan.specs.Horizons.{plan_with}
@@ -17,10 +18,12 @@ use Rattle.rules_fill.specs.Steps.{steps}
 use Rattle.rules_fill.specs.Shapes.{touches, is_line, remove_cell, remove_from, remove_in, letter_in, literal_in, fill_activation, fill_link, fill_links, fill_own_literal, fill_proposition, fill_propositions}
 use Rattle.rules_fill.proofs.StepLaws.{when_false, steps_add, steps_alike, steps_idle}
 use Rattle.rules_fill.proofs.ShapeLaws.{remove_cell_none, link_by, proposition_by}
-use Rattle.rules_listed.specs.Notes.{Noted}
+use Rattle.rules_listed.specs.declared.part.Part.{Part}
 use Rattle.rules_listed.proofs.Counting.{count_two}
+use Rattle.rules_refill.specs.declared.refill.Refill.{Refill}
 use Rattle.rules_refill.specs.Lists.{PointLists}
 use Rattle.rules_refill.specs.Lent.{RefillLent}
+use Rattle.rules_refill.specs.Refills.{PartIn}
 use Rattle.rules_refill.specs.Removals.{RemovalRow, link_in, single_in, removal_in, fill_removals}
 use Rattle.rules_refill.proofs.Refilling.{RemovalLent, letter_lends, literal_lends, letter_made, literal_made}
 
@@ -111,14 +114,14 @@ module _ {w : ℕ} {F L counts : List ℕ} {x : ℕ} (lists : PointLists w F L c
   unfolding remove_in remove_from
   none_removed other mask add B = sym (steps_idle _ w (λ t h C. sym (from_start other mask add t h C (ℕ_discrete t 0))) B)
 
-module _ {bs M : List ℕ} {horizon : ℕ} {F L counts rows : List ℕ} {w mask x : ℕ} (lent : RefillLent bs M horizon F L counts rows w mask x) (r : ℕ) (by : Remover) (row : RemovalRow (plan_of bs) r by) where
-  pub removal_lends : {B N : List ℕ} {count : ℕ} → r < (plan_of bs).links + (plan_of bs).propositions → Noted w F (x * w) B N count → RemovalLent w F L counts x B N count by
-  removal_lends {B} {N} {count} h noted = go (ltb r (plan_of bs).links) refl
-    where
-      go : (b : Bool) → ltb r (plan_of bs).links ≡ b → RemovalLent w F L counts x B N count by
-      go true e = let k = ltb-true r (plan_of bs).links e in letter_lends lent noted r k by (row.letter k)
-      go false e = let k = ltb-false r (plan_of bs).links e in literal_lends lent noted (r - (plan_of bs).links) (omega arith) by (row.literal k)
+pub removal_lends : (f : Refill) {p : Part} → PartIn f p → (r : ℕ) (by : Remover) → RemovalRow (plan_of f.plan.now) r by → r < (plan_of f.plan.now).links + (plan_of f.plan.now).propositions → RemovalLent f p by
+removal_lends f {p} of r by row h = go (ltb r (plan_of f.plan.now).links) refl
+  where
+    go : (b : Bool) → ltb r (plan_of f.plan.now).links ≡ b → RemovalLent f p by
+    go true e = let k = ltb-true r (plan_of f.plan.now).links e in letter_lends f of r k by (row.letter k)
+    go false e = let k = ltb-false r (plan_of f.plan.now).links e in literal_lends f of (r - (plan_of f.plan.now).links) (omega arith) by (row.literal k)
 
+module _ {bs M : List ℕ} {horizon : ℕ} {F L counts : List ℕ} {rows : Rows} {w mask x : ℕ} (lent : RefillLent bs M horizon F L counts rows w mask x) (r : ℕ) (by : Remover) (row : RemovalRow (plan_of bs) r by) where
   pub removal_by : (B C : List ℕ) → C ≡ remove_in w F by.other by.mask by.add x B → C ≡ removal_in (plan_with bs horizon) F x r B
   removal_by B C made = go (ltb r (plan_of bs).links) refl
     where
@@ -126,7 +129,7 @@ module _ {bs M : List ℕ} {horizon : ℕ} {F L counts rows : List ℕ} {w mask 
       go true e = let k = ltb-true r (plan_of bs).links e in letter_made lent B C r by (row.letter k) made ∙ link_removes (plan_with bs horizon) F x r k B
       go false e = let k = ltb-false r (plan_of bs).links e in literal_made lent B C (r - (plan_of bs).links) by (row.literal k) made ∙ proposition_removes (plan_with bs horizon) F x r k B
 
-module _ {bs M : List ℕ} {horizon : ℕ} {F L counts rows : List ℕ} {w mask x : ℕ} (lent : RefillLent bs M horizon F L counts rows w mask x) where
+module _ {bs M : List ℕ} {horizon : ℕ} {F L counts : List ℕ} {rows : Rows} {w mask x : ℕ} (lent : RefillLent bs M horizon F L counts rows w mask x) where
   pub removal_none : get_or counts (2 * x + 1) 0 < 2 → (r : ℕ) (B : List ℕ) → B ≡ removal_in (plan_with bs horizon) F x r B
   unfolding removal_in letter_in literal_in
   removal_none few r B = go (ltb r (plan_of bs).links) (none _ _ _) (none _ _ _)

@@ -1,5 +1,5 @@
 -- For inner contracts only: what filling one point's part from raised cells is lent. Nothing here is to be believed.
-use Rattle.std.specs.Prelude.{◌≡◌, Bool, false, ◌⊎◌, List, ℕ, ◌+◌, ◌*◌, ◌≤◌, ◌<◌, length, get_or, take}
+use Rattle.std.specs.Prelude.{◌≡◌, Bool, false, ◌⊎◌, List, ℕ, ◌+◌, ◌*◌, ◌≤◌, ◌<◌, length, get_or}
 use Rattle.std.specs.Int.Bits.{bit_or}
 use Rattle.plan.specs.Label.{Marks}
 use Rattle.plan.specs.Plan.{Plan, width, cells}
@@ -8,29 +8,36 @@ use Rattle.plan.specs.Horizons.{plan_with}
 use Rattle.plan.specs.Refusal.{Accepted}
 use Rattle.rules_fill.specs.declared.shapes.Propagator.{Propagator}
 use Rattle.rules_fill.specs.Shapes.{propagated}
-use Rattle.rules_fill.specs.Parts.{AtMost, point_cells}
+use Rattle.rules_fill.specs.Parts.{AtMost}
 use Rattle.rules_fill.specs.Filling.{FillNumbers}
-use Rattle.rules_rows.specs.RowsRead.{RowsRead}
+use Rattle.rules_rows.specs.declared.rows.Rows.{Rows}
+use Rattle.rules_listed.specs.declared.table.Table.{Table}
 use Rattle.rules_refill.specs.Lists.{Raised, Lists}
 
 -- an accepted plan, the marks, a horizon no shorter than the plan's own, a table with waits to which a duration can be added in 32 bits, what is known of
 -- it, the plan's rows, the cells of a point, the bits of a label, and a point of the plan
-pub record RefillLent (plan marks : List ℕ) (horizon : ℕ) (first lists counts rows : List ℕ) (w mask x : ℕ) : Type 0 where
+pub record RefillLent (plan marks : List ℕ) (horizon : ℕ) (first lists counts : List ℕ) (rows : Rows) (w mask x : ℕ) : Type 0 where
   pub accepted : Accepted plan
   pub marked : Marks marks
   pub horizon_far : (plan_of plan).horizon ≤ horizon
   pub bound : AtMost 4000000000 first
   pub long_first : cells (plan_of plan) ≤ length first
   pub lists_are : Lists (plan_with plan horizon) first lists counts
-  pub rows_are : RowsRead (plan_of plan) rows
+  pub rows_are : rows.plan.now ≡ plan
   pub numbers : FillNumbers plan w mask
   pub point_in : x < (plan_of plan).points
 
--- a part that has the cells of point x, and a list that has room for notes of them
-pub record PartLent (w : ℕ) (first part notes : List ℕ) (x : ℕ) : Type 0 where
-  pub part_long : w ≤ length part
-  pub notes_long : w ≤ length notes
-  pub cells_are : take w part ≡ point_cells w x first
+-- the same of every point of a plan with n points, for a table that is lent with its lists
+pub record RefillOver (plan : List ℕ) (n : ℕ) (marks : List ℕ) (horizon : ℕ) (rows : Rows) (mask : ℕ) (t : Table) : Type 0 where
+  pub accepted : Accepted plan
+  pub marked : Marks marks
+  pub horizon_far : (plan_of plan).horizon ≤ horizon
+  pub bound : AtMost 4000000000 t.first.now
+  pub long_first : cells (plan_of plan) ≤ length t.first.now
+  pub lists_are : ∥ Lists (plan_with plan horizon) t.first.now t.lists.now t.counts.now ∥₁
+  pub rows_are : rows.plan.now ≡ plan
+  pub numbers : FillNumbers plan t.width mask
+  pub points_are : n ≡ (plan_of plan).points
 
 -- a row of rules 1 to 3 of point x: its point, the bits that it adds, and what it gives from lines of which none is raised
 pub record RowOf (P : Plan) (first lists counts : List ℕ) (mask x : ℕ) (by : Propagator) : Type 0 where

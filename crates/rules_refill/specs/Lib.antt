@@ -1,3 +1,4 @@
 pub mod Lists
 pub mod Lent
 pub mod Removals
+pub mod Refills

@@ -3,4 +3,4 @@
 
 mod refill;
 
-pub use refill::refill_point;
+pub use refill::Refill;

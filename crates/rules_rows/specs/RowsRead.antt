@@ -1,9 +1,8 @@
--- For inner contracts only: the rows of a plan in a list of numbers. Nothing here is to be believed.
--- Entries 0 to 31 are the first edge of each point, 32 to 35 the observing points, 36 to 51 the links, four numbers each,
--- and from 52 on the edges, five numbers each, the last the next edge of the same point.
-use Rattle.std.specs.Prelude.{◌≡◌, cond, List, ℕ, zero, suc, ◌+◌, ◌-◌, ◌*◌, ◌≤◌, ◌<◌, eqb, length, get_or, set}
+-- For inner contracts only: the rows of a plan as they are read. Nothing here is to be believed.
+use Rattle.std.specs.Prelude.{◌≡◌, cond, Option, Some, None, List, ℕ, zero, suc, ◌+◌, ◌-◌, ◌≤◌, ◌<◌, eqb, ltb, get_or}
 use Rattle.plan.specs.Plan.{Plan}
-use Rattle.rules_fill.specs.Steps.{steps}
+use Rattle.rules_rows.specs.declared.numbers.LinkNumbers.{LinkNumbers}
+use Rattle.rules_rows.specs.declared.numbers.EdgeNumbers.{EdgeNumbers}
 
 -- the first of k edges from edge i on that starts at point x; i + k, where none does
 unfoldable pub edge_among : Plan → ℕ → ℕ → ℕ → ℕ
@@ -14,55 +13,42 @@ edge_among P x i (suc k) = cond (eqb (P.from i) x) i (edge_among P x (suc i) k)
 unfoldable pub next_edge : Plan → ℕ → ℕ → ℕ
 next_edge P x i = edge_among P x i (P.edges - i)
 
--- ---- what is put where
-unfoldable pub head_cleared : Plan → ℕ → List ℕ → List ℕ
-head_cleared P x A = set A x P.edges
+-- an edge, or none
+abbrev pub edge_or_none : Plan → ℕ → Option ℕ
+edge_or_none P i = cond (ltb i P.edges) (Some i) None
 
-unfoldable pub heads_cleared : Plan → List ℕ → List ℕ
-heads_cleared P = steps (head_cleared P) P.points
+-- ---- what is read
+abbrev pub no_link : LinkNumbers
+no_link = record { activation = 0; finish = 0; least = 0; most = 0 }
 
-unfoldable pub observer_put : Plan → ℕ → List ℕ → List ℕ
-observer_put P j A = set A (32 + j) (P.observer j)
+abbrev pub link_of : Plan → ℕ → LinkNumbers
+link_of P i = record { activation = P.activation i; finish = P.finish i; least = P.least i; most = P.most i }
 
-unfoldable pub observers_put : Plan → List ℕ → List ℕ
-observers_put P = steps (observer_put P) P.propositions
+abbrev pub no_edge : EdgeNumbers
+no_edge = record { to = 0; label = 0; up = 0; down = 0; next = None }
 
--- four numbers, from an entry on
-unfoldable pub four_put : ℕ → ℕ → ℕ → ℕ → ℕ → List ℕ → List ℕ
-four_put at a b c d A = set (set (set (set A at a) (at + 1) b) (at + 2) c) (at + 3) d
+abbrev pub edge_with : Plan → ℕ → Option ℕ → EdgeNumbers
+edge_with P i next = record { to = P.to i; label = P.label i; up = P.up i; down = P.down i; next = next }
 
-unfoldable pub link_put : Plan → ℕ → List ℕ → List ℕ
-link_put P i = four_put (36 + 4 * i) (P.activation i) (P.finish i) (P.least i) (P.most i)
+abbrev pub edge_of : Plan → ℕ → EdgeNumbers
+edge_of P i = edge_with P i (edge_or_none P (next_edge P (P.from i) (i + 1)))
 
-unfoldable pub links_put : Plan → List ℕ → List ℕ
-links_put P = steps (link_put P) P.links
+pub record ObserversRead (P : Plan) (observers : List ℕ) : Type 0 where
+  pub observer_is : (j : ℕ) → j < P.propositions → get_or observers j 0 ≡ P.observer j
 
-unfoldable pub edge_put : Plan → ℕ → List ℕ → List ℕ
-edge_put P i = four_put (52 + 5 * i) (P.to i) (P.label i) (P.up i) (P.down i)
+pub record LinksRead (P : Plan) (links : List LinkNumbers) : Type 0 where
+  pub link_is : (i : ℕ) → i < P.links → get_or links i no_link ≡ link_of P i
 
--- the first edge of its point so far becomes its next, and itself the first
-unfoldable pub edge_linked : Plan → ℕ → List ℕ → List ℕ
-edge_linked P i A = set (set A (56 + 5 * i) (get_or A (P.from i) 0)) (P.from i) i
-
--- ---- what the list then holds
-pub record LinksRead (P : Plan) (rows : List ℕ) : Type 0 where
-  pub observer_is : (j : ℕ) → j < P.propositions → get_or rows (32 + j) 0 ≡ P.observer j
-  pub activation_is : (i : ℕ) → i < P.links → get_or rows (36 + 4 * i) 0 ≡ P.activation i
-  pub finish_is : (i : ℕ) → i < P.links → get_or rows (37 + 4 * i) 0 ≡ P.finish i
-  pub least_is : (i : ℕ) → i < P.links → get_or rows (38 + 4 * i) 0 ≡ P.least i
-  pub most_is : (i : ℕ) → i < P.links → get_or rows (39 + 4 * i) 0 ≡ P.most i
-
--- observing points, links, and the edges from edge n on
-pub record EdgesFrom (P : Plan) (n : ℕ) (rows : List ℕ) : Type 0 where
-  pub long : 692 ≤ length rows
-  pub others : LinksRead P rows
-  pub first_is : (x : ℕ) → x < P.points → get_or rows x 0 ≡ next_edge P x n
-  pub to_is : (i : ℕ) → n ≤ i → i < P.edges → get_or rows (52 + 5 * i) 0 ≡ P.to i
-  pub label_is : (i : ℕ) → n ≤ i → i < P.edges → get_or rows (53 + 5 * i) 0 ≡ P.label i
-  pub up_is : (i : ℕ) → n ≤ i → i < P.edges → get_or rows (54 + 5 * i) 0 ≡ P.up i
-  pub down_is : (i : ℕ) → n ≤ i → i < P.edges → get_or rows (55 + 5 * i) 0 ≡ P.down i
-  pub next_is : (i : ℕ) → n ≤ i → i < P.edges → get_or rows (56 + 5 * i) 0 ≡ next_edge P (P.from i) (i + 1)
+-- the edges from edge n on, and the first of each point among them
+pub record EdgesFrom (P : Plan) (n : ℕ) (first : List (Option ℕ)) (edges : List EdgeNumbers) : Type 0 where
+  pub first_is : (x : ℕ) → x < P.points → get_or first x None ≡ edge_or_none P (next_edge P x n)
+  pub edge_is : (i : ℕ) → n ≤ i → i < P.edges → get_or edges i no_edge ≡ edge_of P i
 
 -- all of them
-abbrev pub RowsRead : Plan → List ℕ → Type 0
-RowsRead P rows = EdgesFrom P 0 rows
+abbrev pub EdgesRead : Plan → List (Option ℕ) → List EdgeNumbers → Type 0
+EdgesRead P first edges = EdgesFrom P 0 first edges
+
+pub record RowsRead (P : Plan) (observers : List ℕ) (links : List LinkNumbers) (first : List (Option ℕ)) (edges : List EdgeNumbers) : Type 0 where
+  pub observers_are : ObserversRead P observers
+  pub links_are : LinksRead P links
+  pub edges_are : EdgesRead P first edges

@@ -1,5 +1,5 @@
 -- The text for an input of over 832 bytes is the same whatever they are, so the first 833 bytes of an input tell the text for it.
-use Rattle.std.proofs.Common.{◌≡◌, ◌≢◌, ◌<◌, ℕ, List, [], ◌++◌, None, Some, IfSome, Result, Ok, Err, OnOk, arith, length, ap, sym, ◌∙◌, refl, subst, append-nil, length-append, inl, inr}
+use Rattle.std.proofs.Common.{◌≡◌, ◌≢◌, ◌<◌, ℕ, List, [], ◌++◌, None, Some, IfSome, arith, length, ap, sym, ◌∙◌, refl, subst, append-nil, length-append, inl, inr}
 use Rattle.std.specs.declared.option.Option.{Option}
 use Rattle.std.specs.Io.KnownBytes.{Consumes, IsAtEnd}
 use Rattle.std.proofs.lemmas.Bool.Decides.{eqb_tells}
@@ -7,11 +7,6 @@ use borrow.Author.Tests.{lt-ltb}
 use Rattle.plan.specs.Layout.{most_bytes}
 use Rattle.report.specs.Text.{text_of}
 use Rattle.report.specs.Printed.{program_outcome, printed}
-
--- what comes of P for the value there is comes of Q
-pub on_ok : {X E : Type 0} {P Q : Type 0} (r : Result X E) → (P → Q) → OnOk r P → OnOk r Q
-on_ok (Ok x) f p = f p
-on_ok (Err e) f p = tt
 
 module _ (F G : List ℕ) where
   both_long : (bs cs : List ℕ) → most_bytes < length bs → most_bytes < length cs → printed bs F G ≡ printed cs F G

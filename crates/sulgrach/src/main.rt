@@ -27,6 +27,7 @@ fn read_full<R: Read>(input: &mut R, buffer: &mut [u8]) -> (usize, io::Result<()
     ensures end { OnOk result.1 (result.0 ≢ length buffer.new → IsAtEnd (R.remaining input.new)) }
 {
     let mut done = 0;
+    // A `while`, since each read says how far it steps: `read_exact` says nothing of an input that ends before, and clause `bytes` speaks of that too.
     while done < buffer.len() {
         match input.read(&mut buffer[done..]) {
             Ok(0) => return (done, Ok(())),
@@ -40,17 +41,15 @@ fn read_full<R: Read>(input: &mut R, buffer: &mut [u8]) -> (usize, io::Result<()
 // Reads once and drops what came. Says whether there was something.
 fn drop_some<R: Read>(input: &mut R) -> bool {
     let mut buffer = [0u8; 4096];
-    match input.read(&mut buffer) {
-        Ok(n) => n != 0,
-        Err(_) => false,
-    }
+    input.read(&mut buffer).is_ok_and(|n| n != 0)
 }
 
 // Reads what is left of the input, so that whoever writes it can end. The count is one that no run uses up: a proved loop has to end.
 fn drop_rest<R: Read>(input: &mut R) {
-    let mut turns = u64::MAX;
-    while turns > 0 && drop_some(input) {
-        turns -= 1;
+    for _ in 0..u64::MAX {
+        if !drop_some(input) {
+            return;
+        }
     }
 }
 

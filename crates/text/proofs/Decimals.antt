@@ -1,7 +1,7 @@
 -- Laws of decimals: the digits one by one, and how many there are.
 use mathlib.Core.Path.{◌≡◌, refl, sym, ap, ◌∙◌}
 use mathlib.Core.List.{List, [], ◌∷◌, ◌++◌}
-use Prim.Native.Nat.{ℕ, zero, suc, ◌+◌, ◌/◌, ◌%◌, ◌^◌, ◌≤◌, ◌<◌}
+use Prim.Native.Nat.{ℕ, zero, suc, ◌+◌, ◌*◌, ◌/◌, ◌%◌, ◌^◌, ◌≤◌, ◌<◌}
 use native.Mathlib.Decide.{dec_le}
 use native.Mathlib.Omega.{arith}
 use lib.ListN.{length, length-append}
@@ -34,12 +34,6 @@ pub decimal_more : (n : ℕ) → 10 ≤ n → decimal n ≡ decimal (n / 10) ++ 
 unfolding decimal
 decimal_more n h = digits_two n n h ∙ ap (λ (l : List ℕ). l ++ ((48 + n % 10) ∷ [])) (digits_enough n (suc (n / 10)) (n / 10) (omega arith) (omega arith))
 
-pub decimal_one_length : (n : ℕ) → n < 10 → 1 ≡ length (decimal n)
-decimal_one_length n h = sym (ap length (decimal_one n h))
-
-pub decimal_more_length : (n : ℕ) → 10 ≤ n → length (decimal n) ≡ 1 + length (decimal (n / 10))
-decimal_more_length n h = rw (decimal_more n h, length-append) (omega arith)
-
 -- a number below 10 to the k + 1 has at most k + 1 digits
 pub decimal_length : (k n : ℕ) → n < 10 ^ suc k → length (decimal n) ≤ suc k
 decimal_length zero n h = rw (decimal_one n (omega arith)) (omega arith)
@@ -48,3 +42,31 @@ decimal_length (suc k) n h = go (decimal_length k (n / 10)) (dec_le 10 n)
     go : (n / 10 < 10 ^ suc k → length (decimal (n / 10)) ≤ suc k) → Dec (10 ≤ n) → length (decimal n) ≤ suc (suc k)
     go r (yes g) = rw (decimal_more n g, length-append) (omega (arith, r (omega arith)))
     go r (no g) = rw (decimal_one n (omega arith)) (omega arith)
+
+-- and a number from 10 to the k on has at least k + 1
+power_some : (k : ℕ) → 1 ≤ 10 ^ k
+power_some zero = omega arith
+power_some (suc k) = omega (arith, power_some k)
+
+decimal_longer : (k n : ℕ) → 10 ^ k ≤ n → suc k ≤ length (decimal n)
+decimal_longer zero n h = go (dec_le 10 n)
+  where
+    go : Dec (10 ≤ n) → 1 ≤ length (decimal n)
+    go (yes g) = rw (decimal_more n g, length-append) (omega arith)
+    go (no g) = rw (decimal_one n (omega arith)) (omega arith)
+decimal_longer (suc k) n h =
+    let g : 10 ≤ n = omega (arith, power_some k) in
+    rw (decimal_more n g, length-append) (omega (arith, decimal_longer k (n / 10) (omega arith)))
+
+pub decimal_length_exact : (k n : ℕ) → 10 ^ k ≤ n → n < 10 * 10 ^ k → k + 1 ≡ length (decimal n)
+decimal_length_exact k n h g = omega (arith, decimal_length k n (omega arith), decimal_longer k n h)
+
+below_power : (n : ℕ) → n < 10 ^ suc n
+below_power zero = omega arith
+below_power (suc n) = omega (arith, below_power n)
+
+pub decimal_few : (n : ℕ) → length (decimal n) ≤ n + 1
+decimal_few n = omega (arith, decimal_length n n (below_power n))
+
+pub decimal_one_length : (n : ℕ) → n < 10 → length (decimal n) ≡ 1
+decimal_one_length n h = ap length (decimal_one n h)

@@ -5,8 +5,8 @@ use Rattle.classes.proofs.judging.classes_fit.Goals as goal
 
 pub returns-then-classes-links : goal.returns-then-classes-links
 unfolding classes_fit
-returns-then-classes-links c = rw (← c.links.ensures.0, ne_eqb _ _ c.if-classes-links.true)
+returns-then-classes-links c = rw (← c.links.ensures.0, eq-eqb _ _ c.if-classes-links.true) c.classes_known.ensures
 
-pub returns : goal.returns
+pub returns-else-classes-links : goal.returns-else-classes-links
 unfolding classes_fit
-returns c = rw (← c.links.ensures.0, eq-eqb _ _ c.if-classes-links.false) c.classes_known.ensures
+returns-else-classes-links c = rw (← c.links.ensures.0, ne_eqb _ _ c.if-classes-links.false)

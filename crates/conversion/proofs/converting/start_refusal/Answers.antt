@@ -1,14 +1,25 @@
 -- `conversion::converting::start_refusal` meets its contract: 2 comes first, then the length, then all else.
-use mathlib.Core.Path.{sym, ◌∙◌}
+use Rattle.std.proofs.Common.{rules}
+use mathlib.Core.Path.{◌≡◌}
+use mathlib.Core.Bool.{Bool}
 use native.Mathlib.Omega.{arith}
-use Rattle.conversion.proofs.Answers.{start_sizes, start_length, start_other}
+use lib.Dec.{eqb}
+use Rattle.std.specs.Prelude.{Result, Err}
+use Rattle.std.specs.Result.{result_eq}
+use Rattle.plan.specs.declared.refusal.Refusal.{Refusal}
+use Rattle.plan.specs.declared.refusal.Refusal.TheVariants.{Sizes}
+use Rattle.plan.specs.contracts.refusal.RefusalPartialEq.TheImpl.{eq-value}
+use Rattle.plan.specs.Numbers.{refusal_number}
+use Rattle.conversion.specs.Conversion.{start_refusal}
 use Rattle.conversion.proofs.converting.start_refusal.Goals as goal
 
-pub returns-then-number-eq2 : goal.returns-then-number-eq2
-returns-then-number-eq2 c = sym (start_sizes _ _ (sym c.refusal-number.ensures ∙ c.if-number-eq2.true))
+is_sizes : (E : Unit {0} → Unit {0} → Bool) (r : Result (Unit {0}) Refusal) → result_eq E eq-value.it r (Err Sizes) ≡ eqb (refusal_number r) 2
+is_sizes E r = search rules
 
 pub returns-then-plan-end : goal.returns-then-plan-end
-returns-then-plan-end c = sym (start_length _ _ (λ e. c.if-number-eq2.false (c.refusal-number.ensures ∙ e)) (λ e. omega arith))
+unfolding start_refusal
+returns-then-plan-end c = grind (arith, is_sizes)
 
 pub returns : goal.returns
-returns c = c.refusal-number.ensures ∙ sym (start_other _ _ (λ e. c.if-number-eq2.false (c.refusal-number.ensures ∙ e)) (omega arith))
+unfolding start_refusal
+returns c = grind (arith, is_sizes)

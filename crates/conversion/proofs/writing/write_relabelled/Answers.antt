@@ -1,20 +1,66 @@
--- `conversion::writing::write_relabelled` meets its contract: the loop's invariant is that the bytes passed are written.
-use Prim.Native.Nat.{◌+◌}
+-- The bytes before the labels are copied, then the labels are 0, and then the rows are copied.
+use mathlib.Core.Path.{◌≡◌, sym, ap, ◌∙◌}
+use Prim.Native.Nat.{◌+◌, ◌≤◌}
 use native.Mathlib.Omega.{arith}
-use Rattle.conversion.proofs.Written.{zeroed_length, written_none, written_more, written_all}
+use lib.ListN.{length, take, drop, replicate, length-append, length-drop, length-replicate}
+use lib.Seq.{length-take-le}
+use Rattle.std.proofs.Common.{rules}
+use Rattle.std.proofs.lemmas.Slice.{overwrites}
+use Rattle.plan.specs.Layout.{labels_at, label_bytes}
+use Rattle.plan.proofs.Forms.{reaches, accepted_length}
+use Rattle.conversion.proofs.Written.{three_parts}
 use Rattle.conversion.proofs.writing.write_relabelled.Goals as goal
+use Rattle.conversion.proofs.writing.write_relabelled.Goals.{After-length_for}
 
-pub loop-i-init : goal.loop-i-init
-loop-i-init c = (omega arith, written_none _ _)
+-- the labels stand before the plan's end, and after them are as many bytes as there are in the form without labels
+fits : (c : After-length_for) → let bs = c.args.plan.now in (c.labels_at-start.result ≤ c.length_for.result) × (length bs ≡ c.length_for.result + label_bytes bs)
+fits c = let bs = c.args.plan.now in
+    let a = c.requires.accepted.0 in
+    (omega (arith, reaches bs a, accepted_length bs a), omega (arith, accepted_length bs a))
 
-pub loop-i-preserved : goal.loop-i-preserved
-loop-i-preserved c = let l = zeroed_length c.args.plan.now c.requires.accepted.0 c.args.labels in
-    (omega arith, written_more c.loop-i.invariant.1 (omega arith) (omega arith) c.relabelled_byte.ensures)
+pub slice_bounds-copy_from_slice-end : goal.slice_bounds-copy_from_slice-end
+slice_bounds-copy_from_slice-end c = omega (arith, fits (goal.at.slice_bounds-copy_from_slice-end c).After-length_for)
 
-pub shape_of-out : goal.shape_of-out
-shape_of-out c = c.loop-i.invariant.1.length_is
+pub slice_bounds-copy_from_slice-end-2 : goal.slice_bounds-copy_from_slice-end-2
+slice_bounds-copy_from_slice-end-2 c = sym (length-take-le _ _ (omega (arith, fits (goal.at.slice_bounds-copy_from_slice-end-2 c).After-length_for)))
 
-pub returns : goal.returns
-returns c = let w = c.loop-i.invariant.1 in
-    let l = zeroed_length c.args.plan.now c.requires.accepted.0 c.args.labels in
-    record { value = omega arith; out_value = written_all w (c.length_for.result + c.args.labels) (omega arith) (omega arith); same_length = w.length_is }
+pub slice_bounds-copy_from_slice-end-3 : goal.slice_bounds-copy_from_slice-end-3
+slice_bounds-copy_from_slice-end-3 c = sym (length-take-le _ _ (omega (arith, fits (goal.at.slice_bounds-copy_from_slice-end-3 c).After-length_for)))
+
+pub copy_from_slice-requires : goal.copy_from_slice-requires
+copy_from_slice-requires c =
+    let f = fits (goal.at.copy_from_slice-requires c).After-length_for in
+    length-take-le _ _ (omega (arith, f)) ∙ sym (length-take-le _ _ (omega (arith, f)))
+
+pub slice_bounds-fill-end : goal.slice_bounds-fill-end
+slice_bounds-fill-end c =
+    let f = fits (goal.at.slice_bounds-fill-end c).After-length_for in
+    let l = c.copy_from_slice.ensures.len in
+    search (rules, overwrites)
+
+pub slice_bounds-copy_from_slice-count : goal.slice_bounds-copy_from_slice-count
+slice_bounds-copy_from_slice-count c = omega (arith, fits (goal.at.slice_bounds-copy_from_slice-count c).After-length_for)
+
+pub slice_bounds-copy_from_slice-start : goal.slice_bounds-copy_from_slice-start
+slice_bounds-copy_from_slice-start c = omega (arith, fits (goal.at.slice_bounds-copy_from_slice-start c).After-length_for)
+
+pub slice_bounds-copy_from_slice-count-2 : goal.slice_bounds-copy_from_slice-count-2
+slice_bounds-copy_from_slice-count-2 c = omega (arith, fits (goal.at.slice_bounds-copy_from_slice-count-2 c).After-length_for)
+
+pub slice_bounds-copy_from_slice-start-2 : goal.slice_bounds-copy_from_slice-start-2
+slice_bounds-copy_from_slice-start-2 c = omega (arith, fits (goal.at.slice_bounds-copy_from_slice-start-2 c).After-length_for)
+
+pub copy_from_slice-requires-2 : goal.copy_from_slice-requires-2
+copy_from_slice-requires-2 c =
+    let f = fits (goal.at.copy_from_slice-requires-2 c).After-length_for in
+    search (rules, overwrites)
+
+pub returns-clause-out_value : goal.returns-clause-out_value
+returns-clause-out_value c = let bs = c.args.plan.now in
+    let O = c.args.out.now in
+    let f = fits (goal.at.returns-clause-out_value c).After-length_for in
+    let x : c.copy_from_slice.new.self ≡ take (labels_at bs) bs = search rules in
+    let l = c.copy_from_slice.ensures.len ∙ length-take-le _ _ (omega (arith, f)) in
+    let y : c.fill.new.self ≡ replicate c.args.labels 0 = c.fill.ensures.after (λ y e. e) ∙ ap (λ n. replicate n 0) (length-take-le _ _ (rw (length-drop, length-append, length-drop) (omega (arith, f, l))) ∙ omega arith) in
+    let z : c.copy_from_slice-2.new.self ≡ drop (labels_at bs + label_bytes bs) bs = search (rules, overwrites) in
+    rw (x, y, z, c.labels_at-start.ensures.0) (three_parts (take (labels_at bs) bs) (replicate c.args.labels 0) (drop (labels_at bs + label_bytes bs) bs) O (labels_at bs) c.args.labels c.length_for.result (length-take-le _ _ (omega (arith, f))) (length-replicate _ _) (omega (arith, f)) (omega (arith, f)))

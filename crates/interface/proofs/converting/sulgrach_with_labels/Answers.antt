@@ -1,8 +1,8 @@
--- What the conversion answers, as a code and a length.
-use native.Mathlib.Omega.{arith}
-use Rattle.interface.proofs.ConversionCodes.{with_labels_few}
+-- What the call answers, as a code and a number.
+use mathlib.Core.Path.{◌∙◌}
+use Rattle.interface.proofs.CodeLaws.{code_of_conversion, numbers_of_conversion}
 use Rattle.interface.proofs.converting.sulgrach_with_labels.Goals as goal
 
-pub conversion_code-requires : goal.conversion_code-requires
-conversion_code-requires c = let s = c.args in
-    rw c.with_labels-converted.ensures.outcome_is (omega (arith, with_labels_few s.plan.now s.out.now))
+pub returns : goal.returns
+returns c = let r = c.with_labels-converted.result in
+    record { outcome = _; conversion = c.with_labels-converted.ensures; code_is = c.result_code.ensures ∙ code_of_conversion r; numbers_are = c.put_result.ensures.numbers_value ∙ numbers_of_conversion r _ }

@@ -1,8 +1,8 @@
--- What the page answers, as a code and a length.
-use native.Mathlib.Omega.{arith}
-use Rattle.interface.proofs.PageCodes.{page_few}
+-- What the call answers, as a code and a number.
+use mathlib.Core.Path.{◌∙◌}
+use Rattle.interface.proofs.CodeLaws.{code_of_page, numbers_of_page}
 use Rattle.interface.proofs.paging.sulgrach_page.Goals as goal
 
-pub page_code-requires : goal.page_code-requires
-page_code-requires c = let s = c.args in
-    rw c.page-paged.ensures.outcome_is (omega (arith, page_few s.plan.now s.table.now s.out.now))
+pub returns : goal.returns
+returns c = let r = c.page-paged.result in
+    record { outcome = _; page = c.page-paged.ensures; code_is = c.result_code.ensures ∙ code_of_page r; numbers_are = c.put_result.ensures.numbers_value ∙ numbers_of_page r _ }

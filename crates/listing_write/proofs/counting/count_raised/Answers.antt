@@ -16,7 +16,7 @@ loop-c-preserved c =
     let l = c.loop-c in
     let s = c.args in
     elim c.if-first-c.branch [
-      | then-first-c w ↦ (omega arith, omega arith, λ P. one_counted P s.first.now s.second.now s.lines l.c l.count (l.invariant.2 P) c.if-first-c.count w.if-first-c.true (w.count-is ∙ w.one_more-count.ensures))
+      | then-first-c w ↦ (omega arith, omega arith, λ P. one_counted P s.first.now s.second.now s.lines l.c l.count (l.invariant.2 P) c.if-first-c.count w.if-first-c.true (omega (arith, w.count-is, w.min-count.ensures)))
       | else-first-c w ↦ (omega arith, omega arith, λ P. one_passed P s.first.now s.second.now s.lines l.c l.count (l.invariant.2 P) c.if-first-c.count w.if-first-c.false w.count-is)
     ]
 

@@ -1,6 +1,7 @@
 -- The loop's invariant: the cells passed have their starting numbers.
 use mathlib.Core.Path.{refl, ◌∙◌}
 use native.Mathlib.Omega.{arith}
+use lib.ListN.{length-set}
 use Rattle.plan.specs.Layout.{plan_of}
 use Rattle.plan.proofs.Ranges.{accepted_bounded, sizes_few}
 use Rattle.listing_write.proofs.IndexStores.{width_pos, started_none, started_more, started_all}
@@ -15,15 +16,11 @@ loop-c-init c = (omega arith, refl, started_none (plan_of c.args.plan.now) c.arg
 pub start_number-requires : goal.start_number-requires
 start_number-requires c = (width_pos (plan_of c.args.plan.now) c.width-width.result c.width-width.ensures.0, omega (arith, c.requires.1, (accepted_bounded c.args.plan.now c.requires.0).cells_in))
 
-pub put_number-requires : goal.put_number-requires
-put_number-requires c = let l = c.loop-c in
-    (omega (arith, l.invariant.1), c.start_number.ensures.1)
-
 pub loop-c-preserved : goal.loop-c-preserved
 loop-c-preserved c = let l = c.loop-c in
     let s = c.args in
     let n = c.start_number in
-    (omega arith, c.put_number.ensures.same_length ∙ l.invariant.1, started_more (plan_of s.plan.now) l.c n.result l.index _ (omega (arith, l.invariant.1)) (n.ensures.0 (plan_of s.plan.now) c.width-width.ensures.0) c.put_number.ensures.index_value l.invariant.2)
+    (omega arith, length-set _ _ _ ∙ l.invariant.1, started_more (plan_of s.plan.now) l.c n.result l.index _ (omega (arith, l.invariant.1)) (n.ensures.0 (plan_of s.plan.now) c.width-width.ensures.0) refl l.invariant.2)
 
 pub shape_of-index : goal.shape_of-index
 shape_of-index c = c.loop-c.invariant.1

@@ -1,5 +1,7 @@
 -- The lowest raised Z cell has the last line and its number.
+use mathlib.Core.Path.{refl}
 use native.Mathlib.Omega.{arith}
+use lib.ListN.{length-set}
 use Rattle.plan.proofs.Ranges.{sizes_few}
 use Rattle.listing_write.proofs.RoundLaws.{width_fits, lowest_in, lowest_raised_lem, lowest_listed, lowest_numbered}
 use Rattle.listing_write.proofs.round_lines.list_lowest.Goals as goal
@@ -15,13 +17,8 @@ list_raised-requires c = let w = c.width-width in
     let l = c.lowest-c in
     (record { made = c.requires.made; room = omega (arith, c.requires.some_line); inside = lowest_in c.args.plan.now c.args.marks.now c.args.horizon c.args.first.now c.args.second.now c.args.index.now c.args.out.now c.args.m w.result c.requires.made w.ensures.0 c.requires.raises l.result l.ensures }, lowest_raised_lem c.args.plan.now c.args.marks.now c.args.horizon c.args.first.now c.args.second.now c.args.index.now c.args.out.now c.args.m w.result c.requires.made w.ensures.0 c.requires.raises l.result l.ensures)
 
-pub put_number-requires : goal.put_number-requires
-put_number-requires c = let w = c.width-width in
-    let l = c.lowest-c in
-    (omega (arith, lowest_in c.args.plan.now c.args.marks.now c.args.horizon c.args.first.now c.args.second.now c.args.index.now c.args.out.now c.args.m w.result c.requires.made w.ensures.0 c.requires.raises l.result l.ensures, c.requires.made.numbers.sized), omega (arith, c.points-n.ensures.1, c.requires.made.listing.few))
-
 pub returns : goal.returns
 returns c = let w = c.width-width in
     let l = c.lowest-c in
     let n = c.points-n in
-    record { numbers = lowest_numbered c.args.plan.now c.args.marks.now c.args.horizon c.args.first.now c.args.second.now c.args.index.now c.args.out.now c.args.m w.result c.requires.made w.ensures.0 c.requires.raises l.result l.ensures n.result _ n.ensures.0 c.put_number.ensures.index_value; appends = lowest_listed c.args.plan.now c.args.marks.now c.args.horizon c.args.first.now c.args.second.now c.args.index.now c.args.out.now c.args.m w.result c.requires.made w.ensures.0 c.requires.raises l.result l.ensures _ c.list_raised.ensures; same_length = c.put_number.ensures.same_length }
+    record { numbers = lowest_numbered c.args.plan.now c.args.marks.now c.args.horizon c.args.first.now c.args.second.now c.args.index.now c.args.out.now c.args.m w.result c.requires.made w.ensures.0 c.requires.raises l.result l.ensures n.result _ n.ensures.0 refl; appends = lowest_listed c.args.plan.now c.args.marks.now c.args.horizon c.args.first.now c.args.second.now c.args.index.now c.args.out.now c.args.m w.result c.requires.made w.ensures.0 c.requires.raises l.result l.ensures _ c.list_raised.ensures; same_length = length-set _ _ _ }

@@ -1,29 +1,16 @@
--- The loop's invariant: the marks passed are set.
-use mathlib.Core.Path.{refl, ◌∙◌}
+-- The marks of the rows are written at once.
+use mathlib.Core.Path.{◌≡◌, sym, ap, ◌∙◌}
+use mathlib.Core.List.{List}
+use Prim.Native.Nat.{ℕ, ◌+◌, ◌-◌, ◌≤◌}
 use native.Mathlib.Omega.{arith}
-use lib.ListN.{length-set}
-use Rattle.minimal_rows.proofs.RunLaws.{run_none, run_more, run_done}
+use lib.ListN.{length, take, drop, replicate, length-take, length-drop, length-replicate}
+use Rattle.std.proofs.lemmas.Slice.{put_mid-paste}
+use Rattle.minimal_rows.proofs.RunLaws.{run_pasted}
 use Rattle.minimal_rows.proofs.reducing.mark_rows.Goals as goal
 
-pub loop-k-init : goal.loop-k-init
-loop-k-init c = (omega arith, run_none _ _ _, refl)
+length-mid : (i n : ℕ) (ms : List ℕ) → i + n ≤ length ms → length (take (i + n - i) (drop i ms)) ≡ n
+length-mid i n ms h = omega (arith, length-take (i + n - i) (drop i ms), length-drop i ms)
 
-pub bounds-marks-i : goal.bounds-marks-i
-bounds-marks-i c = omega (arith, c.loop-k.invariant.2, c.requires)
-
-pub overflow_step-k : goal.overflow_step-k
-overflow_step-k c = omega arith
-
-pub loop-k-smaller : goal.loop-k-smaller
-loop-k-smaller c = omega arith
-
-pub loop-k-preserved : goal.loop-k-preserved
-loop-k-preserved c = let l = c.loop-k in
-    (omega arith, run_more _ _ l.k l.marks _ l.invariant.1, length-set l.marks _ _ ∙ l.invariant.2)
-
-pub shape_of-marks : goal.shape_of-marks
-shape_of-marks c = c.loop-k.invariant.2
-
-pub returns : goal.returns
-returns c = let l = c.loop-k in
-    record { marks_value = run_done _ _ l.k _ l.marks _ (omega arith) l.invariant.1; same_length = l.invariant.2 }
+pub returns-clause-marks_value : goal.returns-clause-marks_value
+returns-clause-marks_value c =
+    put_mid-paste _ _ _ _ (replicate c.args.n c.args.mark) c.args.n (c.fill.ensures.after (λ y e. e) ∙ ap (λ (k : ℕ). replicate k c.args.mark) (length-mid _ _ _ c.requires)) (omega arith) (sym (length-replicate _ _)) ∙ sym (run_pasted _ _ _ _ c.requires)

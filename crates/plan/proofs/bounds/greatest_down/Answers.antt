@@ -1,24 +1,12 @@
--- `plan::bounds::greatest_down` meets its contract: the loop's invariant is that `most` is the largest of the rows passed.
-use native.Mathlib.Omega.{arith}
-use Rattle.plan.specs.Layout.{plan_of}
-use Rattle.plan.proofs.Greatest.{highest_none, highest_more, highest_all}
+use Rattle.std.proofs.Common.{rules, ◌∙◌, ap, ◌<◌}
+use Rattle.plan.specs.Layout.{plan_of, greatest, down_at}
+use Rattle.plan.proofs.Chains.{fold_from_range, kept_by_fold}
+use Rattle.plan.proofs.Greatest.{greatest_lem}
 use Rattle.plan.proofs.bounds.greatest_down.Goals as goal
 
-pub loop-i-init : goal.loop-i-init
-loop-i-init c = highest_none (omega arith)
-
-pub edge_down_at-requires : goal.edge_down_at-requires
-edge_down_at-requires c = (omega arith, c.edge_data_at-bytes.ensures.0, c.edge_data_at-bytes.ensures.1)
-
-pub overflow_step-i : goal.overflow_step-i
-overflow_step-i c = omega arith
-
-pub loop-i-smaller : goal.loop-i-smaller
-loop-i-smaller c = omega arith
-
-pub loop-i-preserved : goal.loop-i-preserved
-unfolding plan_of
-loop-i-preserved c = highest_more c.loop-i.invariant (omega arith) c.edge_down_at.ensures c.greater-most.ensures
-
 pub returns : goal.returns
-returns c = highest_all c.loop-i.invariant (omega arith)
+unfolding plan_of
+returns c = (
+  fold_from_range _ (λ m i r q k. search rules) c.fold.ensures.ran ∙ greatest_lem (down_at c.args.plan.now) c.edges.result ∙ ap (greatest (down_at c.args.plan.now)) c.edges.ensures.0,
+  kept_by_fold (λ m. m < 65536) (search rules) (λ m i r q j k. search rules) c.fold.ensures.ran,
+)

@@ -1,24 +1,12 @@
--- `plan::bounds::greatest_most` meets its contract: the loop's invariant is that `most` is the largest of the rows passed.
-use native.Mathlib.Omega.{arith}
-use Rattle.plan.specs.Layout.{plan_of}
-use Rattle.plan.proofs.Greatest.{highest_none, highest_more, highest_all}
+use Rattle.std.proofs.Common.{rules, ◌∙◌, ap, ◌<◌}
+use Rattle.plan.specs.Layout.{plan_of, greatest, most_at}
+use Rattle.plan.proofs.Chains.{fold_from_range, kept_by_fold}
+use Rattle.plan.proofs.Greatest.{greatest_lem}
 use Rattle.plan.proofs.bounds.greatest_most.Goals as goal
 
-pub loop-i-init : goal.loop-i-init
-loop-i-init c = highest_none (omega arith)
-
-pub link_most-requires : goal.link_most-requires
-link_most-requires c = omega arith
-
-pub overflow_step-i : goal.overflow_step-i
-overflow_step-i c = omega arith
-
-pub loop-i-smaller : goal.loop-i-smaller
-loop-i-smaller c = omega arith
-
-pub loop-i-preserved : goal.loop-i-preserved
-unfolding plan_of
-loop-i-preserved c = highest_more c.loop-i.invariant (omega arith) c.link_most.ensures c.greater-most.ensures
-
 pub returns : goal.returns
-returns c = highest_all c.loop-i.invariant (omega arith)
+unfolding plan_of
+returns c = (
+  fold_from_range _ (λ m i r q k. search rules) c.fold.ensures.ran ∙ greatest_lem (most_at c.args.plan.now) c.links.result ∙ ap (greatest (most_at c.args.plan.now)) c.links.ensures.0,
+  kept_by_fold (λ m. m < 65536) (search rules) (λ m i r q j k. search rules) c.fold.ensures.ran,
+)

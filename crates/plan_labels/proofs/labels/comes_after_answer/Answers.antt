@@ -5,5 +5,5 @@ use Rattle.plan_labels.proofs.labels.comes_after_answer.Goals as goal
 pub returns-then-digit-eq0 : goal.returns-then-digit-eq0
 returns-then-digit-eq0 c = simp (← c.point_label.ensures.0, ← c.digit.ensures, eq-eqb _ _ c.if-digit-eq0.true)
 
-pub returns : goal.returns
-returns c = simp (← c.point_label.ensures.0, ← c.digit.ensures, ne_eqb _ _ c.if-digit-eq0.false) c.some_puts_after.ensures
+pub returns-else-digit-eq0 : goal.returns-else-digit-eq0
+returns-else-digit-eq0 c = simp (← c.point_label.ensures.0, ← c.digit.ensures, ne_eqb _ _ c.if-digit-eq0.false) c.some_puts_after.ensures

@@ -5,5 +5,5 @@ use Rattle.plan_labels.proofs.labels.contains_digit.Goals as goal
 pub returns-then-d-eq0 : goal.returns-then-d-eq0
 returns-then-d-eq0 c = simp (← c.digit-d.ensures, eq-eqb _ _ c.if-d-eq0.true)
 
-pub returns : goal.returns
-returns c = simp (← c.digit-d.ensures, ← c.digit.ensures, ne_eqb _ _ c.if-d-eq0.false)
+pub returns-else-d-eq0 : goal.returns-else-d-eq0
+returns-else-d-eq0 c = simp (← c.digit-d.ensures, ← c.digit.ensures, ne_eqb _ _ c.if-d-eq0.false)

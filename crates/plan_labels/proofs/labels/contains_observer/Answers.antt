@@ -5,5 +5,5 @@ use Rattle.plan_labels.proofs.labels.contains_observer.Goals as goal
 pub returns-then-digit-eq0 : goal.returns-then-digit-eq0
 returns-then-digit-eq0 c = simp (← c.digit.ensures, eq-eqb _ _ c.if-digit-eq0.true)
 
-pub returns : goal.returns
-returns c = simp (← c.digit.ensures, ne_eqb _ _ c.if-digit-eq0.false, ← c.observer.ensures.0, ← c.point_label.ensures.0) c.contains_label.ensures
+pub returns-else-digit-eq0 : goal.returns-else-digit-eq0
+returns-else-digit-eq0 c = simp (← c.digit.ensures, ne_eqb _ _ c.if-digit-eq0.false, ← c.observer.ensures.0, ← c.point_label.ensures.0) c.contains_label.ensures

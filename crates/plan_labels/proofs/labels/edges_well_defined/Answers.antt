@@ -1,25 +1,6 @@
--- `plan_labels::labels::edges_well_defined` meets its contract: the loop's invariant is that the edges passed are well-defined.
-use native.Mathlib.Omega.{arith}
-use Rattle.plan.proofs.Tests.{passed_none, passed_more, passed_all, passed_not}
+use Rattle.std.proofs.Common.{rules}
+use Rattle.plan.proofs.Chains.{every_from_all}
 use Rattle.plan_labels.proofs.labels.edges_well_defined.Goals as goal
 
-pub loop-i-init : goal.loop-i-init
-loop-i-init c = passed_none
-
-pub edge_well_defined-requires : goal.edge_well_defined-requires
-edge_well_defined-requires c = (omega arith, c.requires)
-
-pub returns-then-not-edge_well_defined : goal.returns-then-not-edge_well_defined
-returns-then-not-edge_well_defined c = passed_not c.loop-i.invariant (omega arith) c.edge_well_defined.ensures c.if-not-edge_well_defined.true
-
-pub overflow_step-i : goal.overflow_step-i
-overflow_step-i c = omega arith
-
-pub loop-i-smaller : goal.loop-i-smaller
-loop-i-smaller c = omega arith
-
-pub loop-i-preserved : goal.loop-i-preserved
-loop-i-preserved c = passed_more c.loop-i.invariant (omega arith) c.edge_well_defined.ensures c.if-not-edge_well_defined.false
-
 pub returns : goal.returns
-returns c = passed_all c.loop-i.invariant (omega arith)
+returns c = every_from_all _ c.edges.ensures.0 (λ x b q k. search rules) c.all.ensures.ran

@@ -18,8 +18,8 @@ last : (P : Plan) (a : ℕ) → P.propositions ≤ 4 → a < 4 ^ P.propositions 
 unfolding label_fits
 last P a p l = rw (lt-ltb _ _ l) (plain_more P.propositions 4 a p l)
 
-pub returns-then-labels-label : goal.returns-then-labels-label
-returns-then-labels-label c = beyond _ _ (omega arith)
+pub returns-else-label-labels : goal.returns-else-label-labels
+returns-else-label-labels c = le-ltb _ _ c.if-label-labels.false ∙ beyond _ _ (omega arith)
 
-pub returns : goal.returns
-returns c = c.is_plain.ensures ∙ last _ _ (omega arith) (omega arith)
+pub returns-then-label-labels : goal.returns-then-label-labels
+returns-then-label-labels c = c.is_plain.ensures ∙ last _ _ (omega arith) (omega arith)

@@ -15,19 +15,19 @@ last P i x y d u = simp (lt-ltb, ne_eqb, le-leb)
 
 pub returns-then-n-x : goal.returns-then-n-x
 unfolding edge_ends_fit
-returns-then-n-x c = simp (← c.points-n.ensures.0, ← c.edge_from_at-x.ensures.0, le-ltb _ _ c.if-n-x.true)
+returns-then-n-x c = simp (← c.points-n.ensures.0, ← c.from-x.ensures.0, le-ltb _ _ c.if-n-x.true)
 
 pub returns-then-n-y : goal.returns-then-n-y
 unfolding edge_ends_fit
-returns-then-n-y c = simp (← c.points-n.ensures.0, ← c.edge_to_at-y.ensures.0, le-ltb _ _ c.if-n-y.true, and-false)
+returns-then-n-y c = simp (← c.points-n.ensures.0, ← c.to-y.ensures.0, le-ltb _ _ c.if-n-y.true, and-false)
 
 pub returns-then-x-y : goal.returns-then-x-y
 unfolding edge_ends_fit
-returns-then-x-y c = simp (← c.edge_from_at-x.ensures.0, ← c.edge_to_at-y.ensures.0, eq-eqb _ _ c.if-x-y.true, and-false)
+returns-then-x-y c = simp (← c.from-x.ensures.0, ← c.to-y.ensures.0, eq-eqb _ _ c.if-x-y.true, and-false)
 
-pub returns-then-edge_up_at-gt-MOST_SECONDS : goal.returns-then-edge_up_at-gt-MOST_SECONDS
+pub returns-then-up-gt-MOST_SECONDS : goal.returns-then-up-gt-MOST_SECONDS
 unfolding edge_ends_fit
-returns-then-edge_up_at-gt-MOST_SECONDS c = simp (← c.edge_up_at.ensures.0, lt-leb _ _ c.if-edge_up_at-gt-MOST_SECONDS.true, and-false)
+returns-then-up-gt-MOST_SECONDS c = simp (← c.up.ensures.0, lt-leb _ _ c.if-up-gt-MOST_SECONDS.true, and-false)
 
 pub returns : goal.returns
-returns c = rw c.edge_down_at.ensures.0 (last _ _ (omega arith) (omega arith) (λ e. omega arith) (omega arith))
+returns c = rw c.down.ensures.0 (last _ _ (omega arith) (omega arith) (λ e. omega arith) (omega arith))

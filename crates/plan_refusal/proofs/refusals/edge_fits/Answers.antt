@@ -10,8 +10,8 @@ returns-then-not-edge_ends_fit c = simp (denied c.edge_ends_fit.ensures c.if-not
 
 pub returns-then-not-label_fits : goal.returns-then-not-label_fits
 unfolding edge_fits
-returns-then-not-label_fits c = simp (← c.edge_label_at.ensures.0, denied c.label_fits.ensures c.if-not-label_fits.true, and-false)
+returns-then-not-label_fits c = simp (← c.label.ensures.0, denied c.label_fits.ensures c.if-not-label_fits.true, and-false)
 
 pub returns : goal.returns
 unfolding edge_fits
-returns c = simp (granted c.edge_ends_fit.ensures c.if-not-edge_ends_fit.false, ← c.edge_label_at.ensures.0, granted c.label_fits.ensures c.if-not-label_fits.false, ← c.edge_spare_at.ensures.0)
+returns c = simp (granted c.edge_ends_fit.ensures c.if-not-edge_ends_fit.false, ← c.label.ensures.0, granted c.label_fits.ensures c.if-not-label_fits.false, ← c.spare.ensures.0)

@@ -1,14 +1,12 @@
--- The loop's invariant: the bytes passed are written.
-use mathlib.Core.Path.{◌≡◌}
-use Prim.Native.Nat.{◌-◌, ◌≤◌}
-use Rattle.plan.specs.Layout.{plan_of, length_for}
-use Rattle.plan_rows.specs.Rows.{with_rows}
+-- The rows passed have their ends, and then their data, written.
+use Prim.Native.Nat.{◌+◌, ◌*◌}
 use Rattle.plan_rows.specs.RowBytes.{row_bytes_to}
 use Rattle.plan_rows.proofs.Begun.{Begun}
+use Rattle.plan_rows.proofs.RowPlaces.{ends, edge_data}
 use Rattle.plan_rows.proofs.writing.write_rows.Given as goal
 
 abbrev pub invariant-loop-i : goal.invariant-loop-i
-invariant-loop-i l = (l.i ≤ l.end) × (l.end ≡ length_for (with_rows (plan_of l.plan) l.rows)) × Begun (row_bytes_to l.plan l.rows l.i) l.i l.initial.out l.out
+invariant-loop-i l = Begun (row_bytes_to l.plan l.rows (ends l.plan l.rows + 2 * l.i)) (ends l.plan l.rows + 2 * l.i) l.fn.out l.out
 
-abbrev pub decreases-loop-i : goal.decreases-loop-i
-decreases-loop-i l = l.end - l.i
+abbrev pub invariant-loop-i-2 : goal.invariant-loop-i-2
+invariant-loop-i-2 l = Begun (row_bytes_to l.plan l.rows (edge_data l.plan l.rows + 4 * l.i)) (edge_data l.plan l.rows + 4 * l.i) l.fn.out l.out

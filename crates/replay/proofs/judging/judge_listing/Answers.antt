@@ -1,12 +1,9 @@
--- `replay::judging::judge_listing` meets its contract: each return by the tests that led there.
-use Rattle.replay.proofs.JudgeLaws.{lines_refused, last_label, last_decides}
+-- `replay::judging::judge_listing` meets its contract: where all lines follow the last one is in range.
+use mathlib.Core.Path.{sym}
+use native.Mathlib.Omega.{arith}
+use Rattle.replay.proofs.JudgeLaws.{judged_in}
 use Rattle.replay.proofs.judging.judge_listing.Goals as goal
 
-pub returns-then-number-ne0 : goal.returns-then-number-ne0
-returns-then-number-ne0 c = search lines_refused
-
 pub judge_last-requires : goal.judge_last-requires
-judge_last-requires c = search last_label
-
-pub returns : goal.returns
-returns c = search last_decides
+judge_last-requires c = let m = c.line_count-m in
+    judged_in _ _ _ _ _ c.head_line.ensures.value (sym c.in_ok-judge_lines.ensures) (omega (arith, m.ensures.0))

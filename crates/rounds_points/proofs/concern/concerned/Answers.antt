@@ -5,4 +5,4 @@ use Rattle.rounds_points.proofs.concern.concerned.Goals as goal
 pub returns : goal.returns
 returns c = let d = c.dependents_of in
     let a = c.args in
-    concerned_in a.n a.sets.now a.changed a.lined a.givers d.result c.lined_of.result d.ensures.0 d.ensures.1 c.lined_of.ensures
+    rw (c.union.ensures) (concerned_in a.n a.sets.now a.changed a.lined a.givers d.result c.lined_of.result d.ensures.0 d.ensures.1 c.lined_of.ensures)

@@ -1,19 +1,10 @@
 -- The loop's invariant: the links passed are in the sets, both ways, and the sets have lost no point.
-use mathlib.Core.Path.{refl, ◌∙◌}
+use mathlib.Core.Path.{◌∙◌}
 use native.Mathlib.Omega.{arith}
 use Rattle.plan.specs.Layout.{plan_of}
 use Rattle.plan.proofs.Ranges.{accepted_well_formed}
-use Rattle.rounds_points.proofs.Growing.{links_none, link_fits, link_made, links_all}
+use Rattle.rounds_points.proofs.Growing.{link_fits, link_made, links_all}
 use Rattle.rounds_points.proofs.concern.depend_by_links.Goals as goal
-
-pub loop-i-init : goal.loop-i-init
-loop-i-init c = (omega arith, links_none _ _ c.requires.1, refl)
-
-pub link_activation-a-requires : goal.link_activation-a-requires
-link_activation-a-requires c = omega (arith, c.links-n.ensures.1)
-
-pub link_finish-c-requires : goal.link_finish-c-requires
-link_finish-c-requires c = omega (arith, c.links-n.ensures.1)
 
 pub add-requires : goal.add-requires
 add-requires c = let l = c.loop-i in
@@ -25,18 +16,9 @@ add-requires-in-loop-i c = let l = c.loop-i in
     let r = link_fits (plan_of c.args.plan.now) c.args.sets.now (accepted_well_formed _ c.requires.0) l.i l.sets c.link_activation-a.result c.link_finish-c.result c.link_activation-a.ensures.0 c.link_finish-c.ensures.0 (omega (arith, c.links-n.ensures.0)) l.invariant.1 in
     (omega (arith, c.add.ensures.same_length, r.1), r.2)
 
-pub overflow_step-i : goal.overflow_step-i
-overflow_step-i c = omega arith
-
-pub loop-i-smaller : goal.loop-i-smaller
-loop-i-smaller c = omega arith
-
 pub loop-i-preserved : goal.loop-i-preserved
 loop-i-preserved c = let l = c.loop-i in
     (omega arith, link_made (plan_of c.args.plan.now) c.args.sets.now (accepted_well_formed _ c.requires.0) l.i l.sets c.link_activation-a.result c.link_finish-c.result _ _ c.link_activation-a.ensures.0 c.link_finish-c.ensures.0 c.add.ensures.sets_value c.add-in-loop-i.ensures.sets_value (omega (arith, c.links-n.ensures.0)) l.invariant.1, c.add-in-loop-i.ensures.same_length ∙ c.add.ensures.same_length ∙ l.invariant.2)
-
-pub shape_of-sets : goal.shape_of-sets
-shape_of-sets c = c.loop-i.invariant.2
 
 pub returns : goal.returns
 returns c = let l = c.loop-i in

@@ -1,33 +1,14 @@
--- The loop's invariant: of each changed point, it is left or its dependents are found.
+-- The dependents of each changed point.
 use native.Mathlib.Omega.{arith}
-use Rattle.rounds_points.proofs.Gathering.{found_none, left_few, lowest_below, found_more, found_all}
+use borrow.Author.Rules.{rules}
+use Rattle.std.proofs.iter.Serving.{serving}
+use Rattle.std.proofs.lemmas.Grind.{get_or_default_zero}
+use Rattle.rounds_points.proofs.PointSets.{point_below}
+use Rattle.rounds_points.proofs.Folding.{serves_points, found_fold}
 use Rattle.rounds_points.proofs.concern.dependents_of.Goals as goal
 
-pub loop-left-init : goal.loop-left-init
-loop-left-init c = found_none _ _ _ c.requires.1
-
-pub lowest-y-requires : goal.lowest-y-requires
-lowest-y-requires c = let l = c.loop-left in
-    (omega arith, left_few c.args.sets.now c.args.n c.args.changed c.requires.0 l.left l.found l.invariant)
-
-pub without-left-requires : goal.without-left-requires
-without-left-requires c = c.lowest-y.ensures
-
-pub offset_bounds-sets-y : goal.offset_bounds-sets-y
-offset_bounds-sets-y c = omega (arith, c.lowest-y.ensures.1)
-
-pub bounds-sets-y : goal.bounds-sets-y
-bounds-sets-y c = let l = c.loop-left in
-    (lowest_below c.args.sets.now c.args.n c.args.changed c.requires.0 l.left l.found l.invariant c.lowest-y.result c.lowest-y.ensures.0).1
-
-pub loop-left-smaller : goal.loop-left-smaller
-loop-left-smaller c = c.without-left.ensures.1
-
-pub loop-left-preserved : goal.loop-left-preserved
-loop-left-preserved c = let l = c.loop-left in
-    let w = c.without-left in
-    found_more c.args.sets.now c.args.n c.args.changed c.requires.0 l.left l.found l.invariant c.lowest-y.result c.lowest-y.ensures.0 w.result w.ensures.0 w.ensures.1
+pub fold-requires-clause-callable : goal.fold-requires-clause-callable
+fold-requires-clause-callable c = serves_points (λ f a x b f' k. search rules) _ _ _ (λ s r t k. k) _ (λ b x h. let inside = point_below c.args.changed c.args.n x (rw c.iter.ensures at h) c.requires.1 in let long = c.requires.0.long in let few = c.requires.0.few in grind (serving, arith))
 
 pub returns : goal.returns
-returns c = let l = c.loop-left in
-    found_all c.args.sets.now c.args.n c.args.changed l.left l.found (omega arith) l.invariant
+returns c = found_fold _ (λ s r t k. k) c.args.sets.now c.args.n c.args.changed c.requires.0 _ (λ a y b f' h k. let same = get_or_default_zero c.args.sets.now y in search (rules, same)) c.requires.1 _ c.iter.ensures _ (rw c.new.ensures at c.fold.ensures.ran)

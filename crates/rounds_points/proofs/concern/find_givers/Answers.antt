@@ -5,4 +5,4 @@ use Rattle.rounds_points.proofs.concern.find_givers.Goals as goal
 
 pub returns : goal.returns
 returns c = let a = c.activations in
-    givers_in (plan_of c.args.plan.now) a.result c.observers.result a.ensures c.observers.ensures
+    rw c.union.ensures (givers_in (plan_of c.args.plan.now) a.result c.observers.result a.ensures c.observers.ensures)

@@ -1,30 +1,19 @@
--- The loop's invariant: the set has the observing points of the propositions passed.
+-- A point of each row.
 use native.Mathlib.Omega.{arith}
+use borrow.Author.Rules.{rules}
+use Rattle.std.proofs.iter.Serving.{serving}
 use Rattle.plan.specs.Layout.{plan_of}
 use Rattle.plan.proofs.Ranges.{accepted_well_formed, accepted_bounded}
-use Rattle.rounds_points.proofs.Gathering.{has_none, has_more, has_all}
+use Rattle.plan.proofs.Chains.{fold_from_range}
+use Rattle.rounds_points.proofs.Gathering.{has_all}
+use Rattle.rounds_points.proofs.Folding.{serves_below, with_point, has_fold}
 use Rattle.rounds_points.proofs.concern.observers.Goals as goal
 
-pub loop-j-init : goal.loop-j-init
-loop-j-init c = (omega arith, has_none _ _)
-
-pub observer-requires : goal.observer-requires
-observer-requires c = omega (arith, c.propositions-n.ensures.1)
-
-pub bit-set-requires : goal.bit-set-requires
-bit-set-requires c = let inside = (accepted_well_formed c.args.plan.now c.requires).observer_in c.loop-j.j (omega (arith, c.propositions-n.ensures.0)) in
-    omega (arith, (accepted_bounded c.args.plan.now c.requires).points_in, c.observer.ensures.0)
-
-pub overflow_step-j : goal.overflow_step-j
-overflow_step-j c = omega arith
-
-pub loop-j-smaller : goal.loop-j-smaller
-loop-j-smaller c = omega arith
-
-pub loop-j-preserved : goal.loop-j-preserved
-loop-j-preserved c = let l = c.loop-j in
-    (omega arith, has_more (plan_of c.args.plan.now).observer l.j l.set c.observer.result c.bit-set.result c.observer.ensures.0 c.bit-set.ensures l.invariant.1)
+pub fold-requires-clause-callable : goal.fold-requires-clause-callable
+fold-requires-clause-callable c = serves_below (λ f a x b f' k. search rules) _ _ _ (λ b x h. let inside = (accepted_well_formed c.args.plan.now c.requires).observer_in x (omega (arith, c.propositions.ensures.0)) in
+    let few = (accepted_bounded c.args.plan.now c.requires).points_in in
+    grind (serving, arith))
 
 pub returns : goal.returns
-returns c = let l = c.loop-j in
-    has_all (plan_of c.args.plan.now).observer l.j _ l.set (omega (arith, c.propositions-n.ensures.0)) l.invariant.1
+returns c = let f = (plan_of c.args.plan.now).observer in
+    has_all f c.propositions.result _ c.fold.result c.propositions.ensures.0 (rw (fold_from_range (with_point f) (λ b x d q k. search rules) c.fold.ensures.ran) (has_fold f c.propositions.result _))

@@ -1,17 +1,13 @@
--- The loop's invariant: each cell passed is 0.
-use mathlib.Core.Path.{sym}
-use native.Mathlib.Omega.{arith}
-use borrow.Author.Count.{below_more}
+-- A search among the first n cells.
+use mathlib.Core.Path.{◌∙◌}
+use lib.Dec.{ltb}
+use lib.ListN.{take}
 use borrow.Author.Rules.{rules}
-use Rattle.rounds_tables.proofs.RoundLaws.{above_at, above_nowhere}
+use borrow.Author.Tests.{tests}
+use Rattle.std.proofs.lemmas.Iterator.{YieldsList-from_slice}
+use Rattle.std.proofs.lemmas.Iterator.Search.{any_from_yields_List}
+use Rattle.rounds_tables.proofs.Comparing.{any_above_is}
 use Rattle.rounds_tables.proofs.cells.first_alarm_waits.Goals as goal
 
-pub returns-then-table-c-ne0 : goal.returns-then-table-c-ne0
-returns-then-table-c-ne0 c = sym (above_at c.args.table.now c.args.n c.loop-c.c (omega arith) c.if-table-c-ne0.true)
-
-pub loop-c-preserved : goal.loop-c-preserved
-loop-c-preserved c = (search rules, below_more _ _ c.loop-c.invariant.1 c.if-table-c-ne0.false)
-
 pub returns : goal.returns
-returns c = let s = c.args in
-    sym (above_nowhere s.table.now s.n (λ k h. c.loop-c.invariant.1 k (omega arith)))
+returns c = any_from_yields_List (λ w. ltb 0 w) _ _ _ c.any.ensures.ran (YieldsList-from_slice (take c.args.n c.args.table.now) c.iter.ensures.rest) (λ x b q k. search (rules, tests)) ∙ any_above_is (take c.args.n c.args.table.now)

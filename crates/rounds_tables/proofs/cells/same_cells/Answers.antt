@@ -10,10 +10,6 @@ use Rattle.rounds_tables.proofs.cells.same_cells.Goals as goal
 pub walk-init : goal.walk-init
 walk-init c = (omega arith, refl, simp zero-mul)
 
-pub overflow_mul-start : goal.overflow_mul-start
-overflow_mul-start c = let s = c.args in
-    omega (arith, row_within c.walk.x s.points s.width c.walk-test.true)
-
 pub to_compare-end-requires : goal.to_compare-end-requires
 to_compare-end-requires c = omega (arith, c.walk-test.true, c.requires.points_bound.0)
 

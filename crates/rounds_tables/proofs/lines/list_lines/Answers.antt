@@ -1,6 +1,5 @@
 -- The loop's invariant: the lines of the points passed are listed.
 use native.Mathlib.Omega.{arith}
-use lib.ListN.{length-set}
 use Rattle.rounds_tables.proofs.RoundLaws.{row_within}
 use Rattle.rounds_tables.proofs.ListLaws.{lined_none, lined_more, all_listed}
 use Rattle.rounds_tables.proofs.lines.list_lines.Goals as goal
@@ -11,9 +10,6 @@ loop-y-init c = (omega arith, lined_none _ _ _ _)
 pub list_point-n-requires : goal.list_point-n-requires
 list_point-n-requires c = let row = row_within c.loop-y.y c.args.points c.args.width c.loop-y-test.true in
     record { few = omega arith; narrow = c.requires.3; long_table = omega arith; lists_long = omega arith }
-
-pub bounds-counts-y-in-loop-y : goal.bounds-counts-y-in-loop-y
-bounds-counts-y-in-loop-y c = simp length-set (omega arith)
 
 pub loop-y-preserved : goal.loop-y-preserved
 loop-y-preserved c = (omega arith, lined_more _ _ _ _ _ _ _ _ _ (omega arith) c.loop-y.invariant.1 c.list_point-n.ensures.listed_point c.list_point-n.ensures.same_length)

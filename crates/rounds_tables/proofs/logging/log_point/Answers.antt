@@ -14,9 +14,6 @@ pub loop-t-preserved : goal.loop-t-preserved
 loop-t-preserved c = let i = c.loop-t.invariant in
     (omega arith, c.log_cell-end.ensures.same_length ∙ i.1, grew_cell _ _ _ _ _ _ _ _ _ _ i.2 c.log_cell-end.ensures.log_grew)
 
-pub shape_of-log : goal.shape_of-log
-shape_of-log c = c.loop-t.invariant.1
-
 pub returns : goal.returns
 returns c = let l = c.loop-t in
     let e : l.t ≡ c.args.width = omega arith in

@@ -2,8 +2,5 @@
 use Rattle.rounds_tables.proofs.RoundByPoints.{SoFar}
 use Rattle.rounds_tables.proofs.making.next_round.Given as goal
 
-abbrev pub invariant-loop-left : goal.invariant-loop-left
-invariant-loop-left l = SoFar l.plan l.marks l.horizon l.first l.initial.second l.lists l.counts l.rows l.initial.notes l.initial.noted l.width l.mask l.set l.over l.left l.second l.notes l.noted
-
-abbrev pub decreases-loop-left : goal.decreases-loop-left
-decreases-loop-left l = l.left
+abbrev pub invariant-loop-x : goal.invariant-loop-x
+invariant-loop-x l = (goal.iterator-loop-x).can_next l.x-iterator × (goal.iterator-loop-x).is_finite l.x-iterator × SoFar l.plan l.marks l.horizon l.first l.initial.second l.lists l.counts l.fn.rows l.initial.notes l.initial.noted l.width l.mask l.fn.set l.over l.x-iterator.left l.second l.notes l.noted

@@ -25,14 +25,8 @@ cells-end-requires c = sizes_few c.args.plan.now c.requires.ready.accepted
 pub loop-x-init : goal.loop-x-init
 loop-x-init c = (omega arith, simp zero-mul (laid_none _ _), refl)
 
-pub overflow_mul-start : goal.overflow_mul-start
-overflow_mul-start c = omega (arith, (point c).row)
-
 pub slice_bounds-fill_point-end : goal.slice_bounds-fill_point-end
 slice_bounds-fill_point-end c = (point (goal.at.slice_bounds-fill_point-end c).In-loop-x).cut
-
-pub offset_bounds-second-start : goal.offset_bounds-second-start
-offset_bounds-second-start c = omega (arith, (point (goal.at.offset_bounds-second-start c).In-loop-x).row)
 
 pub slice_bounds-fill_point-count : goal.slice_bounds-fill_point-count
 slice_bounds-fill_point-count c = omega (arith, (point (goal.at.slice_bounds-fill_point-count c).In-loop-x).row)
@@ -50,9 +44,6 @@ fill_point-requires c = let p = point (goal.at.fill_point-requires c).In-loop-x 
 pub loop-x-preserved : goal.loop-x-preserved
 loop-x-preserved c = let p = point (goal.at.loop-x-preserved c).In-loop-x in
     (omega arith, p.more _ c.fill_point.ensures.part_value, p.as_long c.fill_point.new.part c.fill_point.ensures.same_length)
-
-pub shape_of-second : goal.shape_of-second
-shape_of-second c = c.loop-x.invariant.2
 
 pub returns : goal.returns
 returns c = let l = c.loop-x in

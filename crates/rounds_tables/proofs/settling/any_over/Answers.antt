@@ -1,18 +1,11 @@
--- The loop's invariant: no cell passed is above the horizon.
-use mathlib.Core.Bool.{true≢false}
-use native.Mathlib.Omega.{arith}
-use borrow.Author.Count.{below_more}
-use Rattle.rounds_tables.proofs.Walking.{read_low}
+-- Each listed place is one of the cells.
+use Prim.Native.Nat.{◌<◌}
+use lib.ListN.{length}
+use borrow.Author.Rules.{rules}
+use Rattle.std.proofs.lemmas.Iterator.{YieldsList-from_slice}
+use Rattle.std.proofs.lemmas.Iterator.Adapters.{serves_from_places}
+use Rattle.std.proofs.lemmas.Grind.{get_or_default_zero}
 use Rattle.rounds_tables.proofs.settling.any_over.Goals as goal
 
-pub cell_at-requires : goal.cell_at-requires
-cell_at-requires c = omega (arith, c.requires.0.within c.loop-i.i (omega arith))
-
-pub returns-then-horizon-cell_at : goal.returns-then-horizon-cell_at
-returns-then-horizon-cell_at c = record { none = λ e. absurd (true≢false e) }
-
-pub loop-i-preserved : goal.loop-i-preserved
-loop-i-preserved c = (omega arith, below_more _ _ c.loop-i.invariant.1 (read_low c.args.table.now c.args.base _ _ _ _ c.widen_word-c.ensures.0 c.cell_at.ensures.0 c.if-horizon-cell_at.false))
-
-pub returns : goal.returns
-returns c = record { none = λ e k h. c.loop-i.invariant.1 k (omega arith) }
+pub any-requires-clause-callable : goal.any-requires-clause-callable
+any-requires-clause-callable c = serves_from_places (YieldsList-from_slice c.args.places.now c.iter.ensures.rest) (λ x q k. search rules) (λ x k h e. let inside : x.now < length c.args.cells.now = rw e (rw (get_or_default_zero c.args.places.now k x.now h) (c.requires k h)) in search rules)

@@ -1,32 +1,24 @@
 -- The loop's invariant: each point with a line beside the starting line is left or found.
+use mathlib.Core.Path.{refl}
 use native.Mathlib.Omega.{arith}
 use Rattle.rounds_points.proofs.PointSets.{point_below}
-use Rattle.rounds_tables.proofs.Walking.{left_few, lined_first, lined_found, lined_passed, lined_last}
+use Rattle.rounds_tables.proofs.Walking.{lined_first, lined_found, lined_passed, lined_last}
 use Rattle.rounds_tables.proofs.settling.lined_after.Goals as goal
 
-pub loop-left-init : goal.loop-left-init
-loop-left-init c = lined_first _ _ _ _ c.requires
-
-pub lowest-y-requires : goal.lowest-y-requires
-lowest-y-requires c = (omega arith, left_few _ _ c.requires.few c.loop-left.invariant.left_below)
-
-pub without-left-requires : goal.without-left-requires
-without-left-requires c = c.lowest-y.ensures
+pub loop-y-init : goal.loop-y-init
+loop-y-init c = (tt, tt, rw (c.into_iter-y-iterator.ensures.into_iter_gives, c.iter-y-items.ensures) (lined_first _ _ _ _ c.requires))
 
 pub bounds-counts-y : goal.bounds-counts-y
-bounds-counts-y c = omega (arith, point_below c.loop-left.left c.args.points c.lowest-y.result c.lowest-y.ensures.0 c.loop-left.invariant.left_below)
+bounds-counts-y c = omega (arith, point_below c.loop-y.y-iterator.left c.args.points c.in-Some.y c.in-Some.ensures.steps.0 c.loop-y.invariant.2.left_below)
 
-pub loop-left-smaller-then-counts-y-gt1 : goal.loop-left-smaller-then-counts-y-gt1
-loop-left-smaller-then-counts-y-gt1 c = c.without-left.ensures.1
+pub insert-requires : goal.insert-requires
+insert-requires c = omega (arith, c.requires.few, point_below c.loop-y.y-iterator.left c.args.points c.in-Some.y c.in-Some.ensures.steps.0 c.loop-y.invariant.2.left_below)
 
-pub loop-left-preserved-then-counts-y-gt1 : goal.loop-left-preserved-then-counts-y-gt1
-loop-left-preserved-then-counts-y-gt1 c = lined_found _ _ _ _ _ _ c.loop-left.invariant c.lowest-y.ensures.0 c.without-left.ensures.0 c.without-left.ensures.1 _ c.bit-found.ensures
+pub loop-y-preserved-then-counts-y-gt1 : goal.loop-y-preserved-then-counts-y-gt1
+loop-y-preserved-then-counts-y-gt1 c = (tt, tt, rw c.insert.ensures (lined_found _ _ _ _ _ _ c.loop-y.invariant.2 c.in-Some.ensures.steps.0 c.in-Some.ensures.steps.2 c.in-Some.ensures.steps.3 _ refl))
 
-pub loop-left-smaller : goal.loop-left-smaller
-loop-left-smaller c = c.without-left.ensures.1
-
-pub loop-left-preserved : goal.loop-left-preserved
-loop-left-preserved c = lined_passed _ _ _ _ _ _ c.loop-left.invariant c.lowest-y.ensures.0 c.without-left.ensures.0 c.without-left.ensures.1 (omega arith)
+pub loop-y-preserved : goal.loop-y-preserved
+loop-y-preserved c = (tt, tt, lined_passed _ _ _ _ _ _ c.loop-y.invariant.2 c.in-Some.ensures.steps.0 c.in-Some.ensures.steps.2 c.in-Some.ensures.steps.3 (omega arith))
 
 pub returns : goal.returns
-returns c = lined_last _ _ _ _ (omega arith) c.loop-left.invariant
+returns c = lined_last _ _ _ _ c.in-None.ensures.steps.0 c.loop-y.invariant.2

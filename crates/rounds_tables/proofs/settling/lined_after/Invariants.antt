@@ -2,8 +2,5 @@
 use Rattle.rounds_tables.proofs.Walking.{LinedLeft}
 use Rattle.rounds_tables.proofs.settling.lined_after.Given as goal
 
-abbrev pub invariant-loop-left : goal.invariant-loop-left
-invariant-loop-left l = LinedLeft l.points l.counts l.left l.found
-
-abbrev pub decreases-loop-left : goal.decreases-loop-left
-decreases-loop-left l = l.left
+abbrev pub invariant-loop-y : goal.invariant-loop-y
+invariant-loop-y l = (goal.iterator-loop-y).can_next l.y-iterator × (goal.iterator-loop-y).is_finite l.y-iterator × LinedLeft l.points l.counts l.y-iterator.left l.found

@@ -2,8 +2,5 @@
 use Rattle.rounds_tables.proofs.Walking.{OverLeft}
 use Rattle.rounds_tables.proofs.settling.over_horizon.Given as goal
 
-abbrev pub invariant-loop-left : goal.invariant-loop-left
-invariant-loop-left l = OverLeft l.points l.width l.horizon l.table l.lists l.counts l.changed l.left
-
-abbrev pub decreases-loop-left : goal.decreases-loop-left
-decreases-loop-left l = l.left
+abbrev pub invariant-loop-y : goal.invariant-loop-y
+invariant-loop-y l = (goal.iterator-loop-y).can_next l.y-iterator × (goal.iterator-loop-y).is_finite l.y-iterator × OverLeft l.points l.width l.horizon l.table l.lists l.counts l.fn.changed l.y-iterator.left

@@ -3,24 +3,14 @@ use mathlib.Core.Path.{◌≡◌, subst}
 use mathlib.Core.List.{List}
 use Prim.Native.Nat.{ℕ, ◌<◌}
 use native.Mathlib.Omega.{arith}
-use Rattle.plan.specs.Plan.{Plan}
 use Rattle.plan.specs.Layout.{plan_of}
 use Rattle.plan.specs.Refusal.{Accepted}
 use Rattle.plan.proofs.Ranges.{accepted_bounded}
-use Rattle.rules.specs.declared.Line.{Line}
-use Rattle.rules.specs.declared.Edge.{Edge}
 use Rattle.rules.specs.declared.Rule.{Rule}
-use Rattle.rules.specs.declared.Rule.TheVariants.{Propagation, LowerCase, UpperCase, LetterRemoval, OwnLiteral, LiteralRemoval}
-use Rattle.rules_apply.specs.declared.Applied.{Applied}
-use Rattle.rules_apply.specs.Applying.{applied}
-use Rattle.rules_apply.specs.Applicable.{Applicable}
+use Rattle.rules.specs.declared.Rule.TheVariants.{LowerCase, UpperCase, LetterRemoval, OwnLiteral, LiteralRemoval}
 use Rattle.rules.specs.Derivations.{InPlan}
 use Rattle.rules_apply.proofs.ApplyLaws.{in_byte}
 use Rattle.rules_apply.proofs.application.apply.Goals as goal
-
--- `by` stands for the rule that the match found
-by_rule_lem : (P : Plan) (by r : Rule) (l m : Line) (x : Applied) → by ≡ r → x ≡ applied P r l m → x ≡ applied P by l m
-by_rule_lem P by r l m x e h = rw e h
 
 module _ (bs : List ℕ) (by : Rule) (accepted : Accepted bs) (row : InPlan (plan_of bs) by) where
   lower_row : (i : ℕ) → by ≡ LowerCase i → i < 4
@@ -38,13 +28,7 @@ module _ (bs : List ℕ) (by : Rule) (accepted : Accepted bs) (row : InPlan (pla
   literal_row : (j : ℕ) → by ≡ LiteralRemoval j → j < 4
   literal_row j q = omega (arith, (accepted_bounded bs accepted).propositions_in, subst (InPlan (plan_of bs)) q row)
 
-edge_lent : (bs marks : List ℕ) (horizon : ℕ) (by : Rule) (l m : Line) (e : Edge) → Applicable bs marks horizon by l m → by ≡ Propagation e → Applicable bs marks horizon (Propagation e) l l
-edge_lent bs marks horizon by l m e s q = record { accepted = s.accepted; marked = s.marked; horizon_is = s.horizon_is; row = subst (InPlan (plan_of bs)) q s.row; first_in = s.first_in; second_in = s.first_in }
-
-ruleset rows = (edge_lent, lower_row, upper_row, letter_row, own_row, literal_row, in_byte)
-
-pub apply_edge-requires : goal.apply_edge-requires
-apply_edge-requires c = search rows
+ruleset rows = (lower_row, upper_row, letter_row, own_row, literal_row, in_byte)
 
 pub apply_lower-requires : goal.apply_lower-requires
 apply_lower-requires c = search rows
@@ -60,21 +44,3 @@ apply_own_literal-requires c = search rows
 
 pub apply_literal-requires : goal.apply_literal-requires
 apply_literal-requires c = search rows
-
-pub returns-in-Propagation : goal.returns-in-Propagation
-returns-in-Propagation c = search by_rule_lem
-
-pub returns-in-LowerCase : goal.returns-in-LowerCase
-returns-in-LowerCase c = search by_rule_lem
-
-pub returns-in-UpperCase : goal.returns-in-UpperCase
-returns-in-UpperCase c = search by_rule_lem
-
-pub returns-in-LetterRemoval : goal.returns-in-LetterRemoval
-returns-in-LetterRemoval c = search by_rule_lem
-
-pub returns-in-OwnLiteral : goal.returns-in-OwnLiteral
-returns-in-OwnLiteral c = search by_rule_lem
-
-pub returns-in-LiteralRemoval : goal.returns-in-LiteralRemoval
-returns-in-LiteralRemoval c = search by_rule_lem

@@ -1,22 +1,13 @@
--- `rules_apply::propagation::along` meets its contract: each return by the tests that led there.
-use borrow.Author.Rules.{rules}
-use Rattle.rules_apply.proofs.ApplyLaws.{applying, joined_byte}
+-- `rules_apply::propagation::along` meets its contract: four digits tell whether p are plain, of the joined label too.
+use native.Mathlib.Omega.{arith}
+use Rattle.std.proofs.lemmas.Grind.{common_steps}
+use Rattle.plan.proofs.LabelLaws.{plain_more, join_lt}
 use Rattle.rules_apply.proofs.propagation.along.Goals as goal
 
-pub returns-then-l-edge : goal.returns-then-l-edge
-returns-then-l-edge c = λ p few a b. search applying depth 8
-
-pub returns-then-not-is_plain : goal.returns-then-not-is_plain
-returns-then-not-is_plain c = λ p few a b. search applying depth 8
-
-pub is_plain-requires-2 : goal.is_plain-requires-2
-is_plain-requires-2 c = search (rules, joined_byte)
-
-pub returns-then-not-is_plain-2 : goal.returns-then-not-is_plain-2
-returns-then-not-is_plain-2 c = λ p few a b. search applying depth 8
-
-pub returns-then-sum-edge : goal.returns-then-sum-edge
-returns-then-sum-edge c = λ p few a b. search applying depth 8
+pub is_plain-requires-then-is_plain : goal.is_plain-requires-then-is_plain
+is_plain-requires-then-is_plain c = (c.requires.0, rw (c.join-label.ensures 4 c.requires.1 c.requires.2) (join_lt 4 _ _))
 
 pub returns : goal.returns
-returns c = λ p few a b. search applying depth 8
+returns c = λ p few a b.
+    let joined = c.join-label.ensures p a b in
+    grind (arith, common_steps, plain_more p 4 _ few b, plain_more p 4 c.join-label.result few (rw joined (join_lt p _ _)), joined)

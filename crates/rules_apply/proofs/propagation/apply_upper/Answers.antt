@@ -1,12 +1,8 @@
--- `rules_apply::propagation::apply_upper` meets its contract: each return by the tests that led there.
-use Rattle.rules_apply.proofs.ApplyLaws.{applying}
+-- `rules_apply::propagation::apply_upper` meets its contract: four digits tell whether the plan's are plain.
+use native.Mathlib.Omega.{arith}
+use Rattle.std.proofs.lemmas.Grind.{common_steps}
+use Rattle.plan.proofs.LabelLaws.{plain_more}
 use Rattle.rules_apply.proofs.propagation.apply_upper.Goals as goal
 
-pub returns-then-activation-link_activation : goal.returns-then-activation-link_activation
-returns-then-activation-link_activation c = search applying depth 8
-
-pub returns-then-not-is_plain : goal.returns-then-not-is_plain
-returns-then-not-is_plain c = search applying depth 8
-
 pub returns : goal.returns
-returns c = search applying depth 8
+returns c = grind (arith, common_steps, plain_more _ _ _ c.requires.2.few c.requires.2.in_labels.label_in)

@@ -1,18 +1,8 @@
--- `rules_apply::removal::apply_literal` meets its contract: each return by the tests that led there.
-use Rattle.rules_apply.proofs.ApplyLaws.{applying}
+-- `rules_apply::removal::apply_literal` meets its contract: a label with a digit cleared is no greater.
+use native.Mathlib.Omega.{arith}
+use Rattle.std.proofs.lemmas.Grind.{common_steps}
+use Rattle.plan.proofs.LabelLaws.{clear_le}
 use Rattle.rules_apply.proofs.removal.apply_literal.Goals as goal
 
-pub returns-then-digit-eq0 : goal.returns-then-digit-eq0
-returns-then-digit-eq0 c = search applying depth 8
-
-pub returns-then-observing-observer : goal.returns-then-observing-observer
-returns-then-observing-observer c = search applying depth 8
-
-pub returns-then-digit-ne0 : goal.returns-then-digit-ne0
-returns-then-digit-ne0 c = search applying depth 8
-
-pub returns-then-observing-eq0 : goal.returns-then-observing-eq0
-returns-then-observing-eq0 c = search applying depth 8
-
 pub returns : goal.returns
-returns c = search applying depth 8
+returns c = grind (arith, common_steps, c.join.ensures _ (omega (arith, clear_le c.args.l.label c.args.j, c.clear_digit.ensures, c.requires.1.in_labels.label_in)) c.requires.2.label_in)

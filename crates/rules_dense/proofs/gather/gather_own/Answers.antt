@@ -4,14 +4,15 @@ use native.Mathlib.Omega.{arith}
 use Rattle.rules_fill.proofs.StepLaws.{steps_none}
 use Rattle.rules_fill.proofs.ShapeLaws.{done}
 use Rattle.rules_dense.proofs.FreePlaces.{times_pos}
+use Rattle.rules_dense.proofs.FreeHad.{run_had}
 use Rattle.rules_dense.proofs.GatherLaws.{value_on}
 use Rattle.rules_dense.proofs.gather.gather_own.Goals as goal
 
 pub loop-m-init : goal.loop-m-init
-loop-m-init c = (omega arith, times_pos c.requires.frees, steps_none _ _, refl)
+loop-m-init c = (omega arith, times_pos (run_had c.args.free.run), steps_none _ _, refl)
 
 pub gather_value-requires : goal.gather_value-requires
-gather_value-requires c = record { frees = (c.requires.frees, omega arith); places_in = (c.requires.places_in.0, omega arith) }
+gather_value-requires c = record { m_in = omega arith; places_in = (c.requires.places_in.0, omega arith) }
 
 pub overflow_step-m : goal.overflow_step-m
 overflow_step-m c = omega arith

@@ -1,13 +1,8 @@
 -- The loop's invariant: the steps of the cells passed are made.
 use mathlib.Core.Path.{◌≡◌}
-use Prim.Native.Nat.{◌-◌, ◌≤◌}
-use lib.ListN.{length}
 use Rattle.rules_fill.specs.Steps.{steps}
 use Rattle.rules_fill.specs.Shapes.{clear_from}
 use Rattle.rules_fill.proofs.cells.clear_in.Given as goal
 
 abbrev pub invariant-loop-c : goal.invariant-loop-c
-invariant-loop-c l = (l.c ≤ l.width) × (l.part ≡ steps (clear_from l.width l.first l.mask l.x) l.c l.initial.part) × (length l.part ≡ length l.initial.part)
-
-abbrev pub decreases-loop-c : goal.decreases-loop-c
-decreases-loop-c l = l.width - l.c
+invariant-loop-c l = l.part ≡ steps (clear_from l.width l.first l.mask l.x) l.c l.initial.part

@@ -5,8 +5,8 @@ use lib.ListN.{length-set}
 use Rattle.rules.proofs.Raising.{raise_up, raise_none}
 use Rattle.rules_fill.proofs.cells.raise.Goals as goal
 
-pub returns-then-widen_cell-wait : goal.returns-then-widen_cell-wait
-returns-then-widen_cell-wait c = record { part_value = raise_up _ _ _ (omega arith); same_length = simp length-set }
+pub returns-then-from-wait : goal.returns-then-from-wait
+returns-then-from-wait c = record { part_value = raise_up _ _ _ (omega arith); same_length = simp length-set }
 
-pub returns-else-widen_cell-wait : goal.returns-else-widen_cell-wait
-returns-else-widen_cell-wait c = record { part_value = raise_none _ _ _ (omega arith); same_length = refl }
+pub returns-else-from-wait : goal.returns-else-from-wait
+returns-else-from-wait c = record { part_value = raise_none _ _ _ (omega arith); same_length = refl }

@@ -1,40 +1,17 @@
 -- The loop's invariant: the steps of the cells passed are made.
-use mathlib.Core.Path.{refl, ◌∙◌}
+use Prim.Native.Nat.{◌*◌}
 use native.Mathlib.Omega.{arith}
 use Rattle.rules_fill.specs.Shapes.{remove_in}
 use Rattle.rules_fill.proofs.StepLaws.{steps_none}
-use Rattle.rules_fill.proofs.ShapeLaws.{step_made, done, remove_cell_step}
-use Rattle.rules_fill.proofs.Lending.{remover_on}
+use Rattle.rules_fill.proofs.ShapeLaws.{step_made, done, row_cell, remove_cell_step}
 use Rattle.rules_fill.proofs.cells.remove_in.Goals as goal
 
-pub overflow_mul-base : goal.overflow_mul-base
-overflow_mul-base c = omega arith
-
 pub loop-c-init : goal.loop-c-init
-loop-c-init c = (omega arith, steps_none _ _, refl)
-
-pub overflow_add-base : goal.overflow_add-base
-overflow_add-base c = omega arith
-
-pub cell_at-requires : goal.cell_at-requires
-cell_at-requires c = omega arith
-
-pub remove_cell-requires : goal.remove_cell-requires
-remove_cell-requires c = (remover_on _ _ _ _ _ c.requires.0 c.loop-c.invariant.2, c.requires.1, omega arith, omega arith)
-
-pub overflow_step-c : goal.overflow_step-c
-overflow_step-c c = omega arith
-
-pub loop-c-smaller : goal.loop-c-smaller
-loop-c-smaller c = omega arith
+loop-c-init c = steps_none _ _
 
 pub loop-c-preserved : goal.loop-c-preserved
-loop-c-preserved c = let l = c.loop-c in
-    (omega arith, step_made _ _ _ _ _ l.invariant.1 (remove_cell_step _ _ _ _ _ _ _ _ _ _ c.cell_at.ensures.0 c.remove_cell.ensures.part_value), c.remove_cell.ensures.same_length ∙ l.invariant.2)
+loop-c-preserved c = step_made _ _ _ _ _ c.loop-c.invariant (remove_cell_step _ _ _ _ _ _ _ _ _ _ (row_cell c.args.first.now (c.args.x * c.args.width) c.args.width c.loop-c.c _ c.from.ensures (omega arith)) c.remove_cell.ensures.part_value)
 
-pub shape_of-part : goal.shape_of-part
-shape_of-part c = c.loop-c.invariant.2
-
-pub returns : goal.returns
+pub returns-clause-part_value : goal.returns-clause-part_value
 unfolding remove_in
-returns c = record { part_value = done _ _ _ _ _ c.loop-c.invariant.1 (omega arith); same_length = c.loop-c.invariant.2 }
+returns-clause-part_value c = done _ _ _ _ _ c.loop-c.invariant (omega arith)

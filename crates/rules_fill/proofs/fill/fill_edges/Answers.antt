@@ -11,7 +11,7 @@ pub loop-i-init : goal.loop-i-init
 loop-i-init c = (omega arith, steps_none _ _, refl)
 
 pub plan_edge_in-requires : goal.plan_edge_in-requires
-plan_edge_in-requires c = record { rows_lent = rows_on _ _ _ _ _ _ _ c.requires c.loop-i.invariant.2; ends_value = c.edges_at-ends.ensures; i_bound = omega (arith, c.edges-n.ensures.0) }
+plan_edge_in-requires c = record { rows_lent = rows_on _ _ _ _ _ _ _ c.requires c.loop-i.invariant.2; rows_of = c.new-rows.ensures; i_bound = omega (arith, c.edges-n.ensures.0) }
 
 pub overflow_step-i : goal.overflow_step-i
 overflow_step-i c = omega arith

@@ -7,7 +7,7 @@ pub returns-then-not-is_line : goal.returns-then-not-is_line
 returns-then-not-is_line c = removed_none _ _ _ _ _ (sym c.is_line.ensures ∙ c.if-not-is_line.true)
 
 pub returns : goal.returns
-returns c = c.lesser.ensures
+returns c = c.min.ensures
     ∙ removed_goes _ _ _ _ _
     (sym c.is_line.ensures ∙ c.if-not-is_line.false)
     c.requires.2

@@ -1,12 +1,22 @@
 -- Four waits or fewer are done pair by pair, and a run that can raise nothing is as it should be; else three halves cover four.
-use Rattle.std.proofs.Common.{◌∙◌, arith}
+use Rattle.std.proofs.Common.{◌∙◌, sym, arith}
+use Rattle.rules_halving.proofs.Loops.{run_lent, run_long, run_product, run_no_more}
 use Rattle.rules_halving.proofs.Pairs.{or_in}
 use Rattle.rules_halving.proofs.ThreeHalves.{all_covered}
 use Rattle.rules_halving.proofs.Lending.{half, first_lent, second_lent, third_lent, same_below, made}
 use Rattle.rules_halving.proofs.halves.+halve.Goals as goal
 
 pub returns-then-nothing_new-clause-product : goal.returns-then-nothing_new-clause-product
-returns-then-nothing_new-clause-product t c = all_covered _ _ _ _ _ (or_in c.requires.pairs) (c.nothing_new.ensures.no_more c.if-nothing_new.true)
+returns-then-nothing_new-clause-product t c = all_covered _ _ _ _ _ (or_in c.requires.pairs) (run_no_more _ _ _ c.if-nothing_new.true (rw c.requires.pairs.long_first at c.nothing_new.ensures))
+
+pub pairs-requires : goal.pairs-requires
+pairs-requires t c = (rw c.requires.pairs.long_first (run_lent c.requires.pairs), run_long c.requires.pairs ∙ sym c.requires.pairs.long_first)
+
+pub nothing_new-requires : goal.nothing_new-requires
+nothing_new-requires t c = rw c.requires.pairs.long_first (run_lent c.requires.pairs)
+
+pub returns-then-n-le4-clause-product : goal.returns-then-n-le4-clause-product
+returns-then-n-le4-clause-product t c = run_product (rw c.requires.pairs.long_first at c.pairs.ensures.product)
 
 pub halve-requires : goal.halve-requires
 halve-requires t c =

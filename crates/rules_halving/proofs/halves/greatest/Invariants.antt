@@ -1,10 +1,6 @@
--- The loop's invariant: no wait passed is above the greatest so far.
-use Prim.Native.Nat.{◌-◌, ◌≤◌}
-use Rattle.rules_halving.specs.Products.{NoneAbove}
+-- The loop's invariant: the greatest wait so far.
+use Rattle.std.proofs.Common.{◌≡◌, max, fold, take}
 use Rattle.rules_halving.proofs.halves.greatest.Given as goal
 
-abbrev pub invariant-loop-i : goal.invariant-loop-i
-invariant-loop-i l = (l.i ≤ l.n) × NoneAbove l.cells l.from l.i l.most
-
-abbrev pub decreases-loop-i : goal.decreases-loop-i
-decreases-loop-i l = l.n - l.i
+abbrev pub invariant-loop-wait : goal.invariant-loop-wait
+invariant-loop-wait l = l.most ≡ fold max 0 (take l.wait-index l.cells)

@@ -1,10 +1,6 @@
--- The loop's invariant: no wait passed is below the least so far.
-use Prim.Native.Nat.{◌-◌, ◌≤◌}
-use Rattle.rules_halving.specs.Products.{NoneBelow}
+-- The loop's invariant: the least wait so far.
+use Rattle.std.proofs.Common.{◌≡◌, min, fold, take}
 use Rattle.rules_halving.proofs.halves.least.Given as goal
 
-abbrev pub invariant-loop-i : goal.invariant-loop-i
-invariant-loop-i l = (l.i ≤ l.n) × NoneBelow l.cells l.i l.least
-
-abbrev pub decreases-loop-i : goal.decreases-loop-i
-decreases-loop-i l = l.n - l.i
+abbrev pub invariant-loop-wait : goal.invariant-loop-wait
+invariant-loop-wait l = l.least ≡ fold min 4294967295 (take l.wait-index l.cells)

@@ -3,7 +3,6 @@ use mathlib.Core.Path.{◌≡◌, subst}
 use Prim.Native.Nat.{ℕ, ◌-◌, ◌≤◌}
 use native.Mathlib.Omega.{arith}
 use Rattle.plan.specs.Plan.{Plan}
-use Rattle.plan.proofs.Ranges.{accepted_bounded}
 use Rattle.rules_fill.specs.declared.shapes.Remover.{Remover}
 use Rattle.rules_fill.specs.Rows.{LiteralRow}
 use Rattle.rules_refill.specs.Removals.{RemovalRow}
@@ -12,10 +11,11 @@ use Rattle.rules_refill.proofs.refill.removal_row.Goals as goal
 literal_removal : (P : Plan) (r k : ℕ) (by : Remover) → k ≡ P.links → k ≤ r → LiteralRow P (r - k) by → RemovalRow P r by
 literal_removal P r k by e h row = record { letter = λ l. absurd (omega arith); literal = λ l. subst (λ (n : ℕ). LiteralRow P (r - n) by) e row }
 
+pub letter_row-requires : goal.letter_row-requires
+letter_row-requires c = rw c.requires.rows_are (omega (arith, c.links-k.ensures.0))
+
 pub literal_row-requires : goal.literal_row-requires
-literal_row-requires c = let k = c.links-k.ensures.0 in
-    let few = (accepted_bounded c.args.plan.now c.requires.accepted.0).propositions_in in
-    (c.requires.accepted.1, omega (arith, k, c.requires.r_bound), omega (arith, k, c.requires.r_bound, few))
+literal_row-requires c = rw c.requires.rows_are (omega (arith, c.links-k.ensures.0, c.requires.r_bound))
 
 pub returns : goal.returns
-returns c = literal_removal _ _ _ _ c.links-k.ensures.0 c.if-r-k.false c.literal_row.ensures
+returns c = literal_removal _ _ _ _ c.links-k.ensures.0 c.if-r-k.false (rw c.requires.rows_are at c.literal_row.ensures)

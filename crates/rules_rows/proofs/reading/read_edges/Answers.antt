@@ -1,31 +1,26 @@
--- The loop's invariant: the edges from i on are read.
-use mathlib.Core.Path.{refl, ◌∙◌}
+-- Each turn reads one edge more, which becomes the first of its point.
+use Prim.Native.Nat.{◌-◌}
 use native.Mathlib.Omega.{arith}
-use Rattle.plan.proofs.Ranges.{accepted_bounded}
-use Rattle.rules_rows.proofs.RowLaws.{edges_turn, all_read}
+use lib.ListN.{length-set}
+use Rattle.plan.proofs.Ranges.{accepted_bounded, accepted_well_formed}
+use Rattle.rules_rows.proofs.RowLaws.{one_edge_read}
 use Rattle.rules_rows.proofs.reading.read_edges.Goals as goal
 
-pub loop-i-init : goal.loop-i-init
-loop-i-init c = (omega (arith, c.edges-i.ensures.0), rw c.edges-i.ensures.0 c.requires.1, refl)
-
-pub overflow_sub-i : goal.overflow_sub-i
-overflow_sub-i c = omega arith
+pub bounds-first-x : goal.bounds-first-x
+bounds-first-x c = omega (arith, (rw c.new-rows.ensures at c.from-x.ensures.0), (accepted_bounded _ c.requires.0).points_in, (accepted_well_formed _ c.requires.0).from_in (c.loop-i.i - 1) (omega arith))
 
 pub read_edge-requires : goal.read_edge-requires
-read_edge-requires c = record { i_bound = omega (arith, (accepted_bounded _ c.requires.0).edges_in, c.loop-i.invariant.1.long); edges_at = (c.edges_at-ends.ensures.0, c.edges_at-ends.ensures.1, c.edge_data_at-bytes.ensures.0, c.edge_data_at-bytes.ensures.1) }
+read_edge-requires c = omega (arith, (accepted_bounded _ c.requires.0).edges_in)
 
-pub link_edge-requires : goal.link_edge-requires
-link_edge-requires c = record { accepted = (c.requires.0, omega arith, omega (arith, c.loop-i.invariant.1.long)); ends_value = (c.edges_at-ends.ensures.0, c.edges_at-ends.ensures.1) }
+pub bounds-read-i : goal.bounds-read-i
+bounds-read-i c = omega (arith, (accepted_bounded _ c.requires.0).edges_in)
 
-pub loop-i-smaller : goal.loop-i-smaller
-loop-i-smaller c = omega arith
+pub bounds-first-x-in-loop-i : goal.bounds-first-x-in-loop-i
+bounds-first-x-in-loop-i c = omega (arith, (rw c.new-rows.ensures at c.from-x.ensures.0), (accepted_bounded _ c.requires.0).points_in, (accepted_well_formed _ c.requires.0).from_in (c.loop-i.i - 1) (omega arith))
+
+pub loop-i-init : goal.loop-i-init
+loop-i-init c = (c.told-first, c.told-read, rw c.edges-i.ensures.0 c.requires.1)
 
 pub loop-i-preserved : goal.loop-i-preserved
 loop-i-preserved c = let l = c.loop-i.invariant in
-    (omega arith, edges_turn _ c.requires.0 _ (omega arith) l.0 _ _ _ l.1 c.read_edge.ensures.rows_value c.link_edge.ensures.rows_value, c.link_edge.ensures.same_length ∙ c.read_edge.ensures.same_length ∙ l.2)
-
-pub shape_of-rows : goal.shape_of-rows
-shape_of-rows c = c.loop-i.invariant.2
-
-pub returns : goal.returns
-returns c = record { edges_from = all_read _ _ _ (omega arith) c.loop-i.invariant.1; same_length = c.loop-i.invariant.2 }
+    (simp length-set l.0, simp length-set l.1, one_edge_read _ c.requires.0 _ c.loop-i-test.true (omega arith) _ _ l.0 l.1 l.2 _ (rw c.new-rows.ensures at c.from-x.ensures.0) _ (rw c.new-rows.ensures at c.read_edge.ensures))

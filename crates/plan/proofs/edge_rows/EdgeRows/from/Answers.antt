@@ -1,0 +1,10 @@
+-- `plan::edge_rows::EdgeRows::from` meets its contract.
+use mathlib.Core.Path.{ap, ◌∙◌}
+use native.Mathlib.Omega.{arith}
+use Rattle.plan.specs.Bytes.{byte_at}
+use Rattle.plan.specs.Layout.{ends_at, row_of_edge, plan_of}
+use Rattle.plan.proofs.edge_rows.EdgeRows.from.Goals as goal
+
+pub returns : goal.returns
+unfolding plan_of ends_at row_of_edge
+returns c = (c.byte_at.ensures.0 ∙ ap (byte_at _) (omega arith), c.byte_at.ensures.1)

@@ -1,0 +1,7 @@
+-- `rules_ground::search::Search::find_in_horizon_edges` meets its contract: where nothing is found, no horizon edge gives the line.
+use borrow.Author.Rules.{rules}
+use Rattle.rules_ground.proofs.AnswerLaws.{among_answers}
+use Rattle.rules_ground.proofs.search.Search.find_in_horizon_edges.Goals as goal
+
+pub returns : goal.returns
+returns c = among_answers _ c.points-n.ensures.0 (λ x o q h. search rules) c.find_map.ensures.runs

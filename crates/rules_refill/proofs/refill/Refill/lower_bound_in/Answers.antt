@@ -1,0 +1,15 @@
+-- The row that was read is that of the link's lower bound.
+use mathlib.Core.Path.{refl}
+use Rattle.rules.specs.declared.Edge.TheVariants.{LowerBound}
+use Rattle.rules_refill.proofs.Refills.{lent_of}
+use Rattle.rules_refill.proofs.Refilling.{edge_of, edge_made}
+use Rattle.rules_refill.proofs.refill.Refill.lower_bound_in.Goals as goal
+
+pub lower_bound_row-requires : goal.lower_bound_row-requires
+lower_bound_row-requires c = rw c.args.self.now.lent.rows_are c.requires.i_bound.0
+
+pub propagate_row-requires-clause-row_of : goal.propagate_row-requires-clause-row_of
+propagate_row-requires-clause-row_of c = edge_of (lent_of c.args.self.now c.requires.part_of) (LowerBound c.args.i) _ (rw c.args.self.now.lent.rows_are at c.lower_bound_row.ensures) refl c.requires.i_bound.0 c.requires.i_bound.1
+
+pub returns-clause-cells_value : goal.returns-clause-cells_value
+returns-clause-cells_value c = edge_made (lent_of c.args.self.now c.requires.part_of) _ _ (LowerBound c.args.i) _ (rw c.args.self.now.lent.rows_are at c.lower_bound_row.ensures) refl c.propagate_row.ensures.cells_value
