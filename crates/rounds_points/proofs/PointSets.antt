@@ -216,13 +216,31 @@ lowest_in (suc w) (suc k) s hw hs h = go (s % 2) refl (λ p q. lowest_in w k (s 
     go zero e below = let r = below (omega arith) (omega arith) in (half_in s _ r.0, omega arith)
     go (suc b) e below = (in_of s 0 (ap (λ (x : ℕ). x % 2) (div-one s) ∙ omega arith), omega arith)
 
+in_half : (s y : ℕ) → In s (suc y) → In (s / 2) y
+in_half s y h = in_of (s / 2) y (ap (λ (x : ℕ). x % 2) (shr-shr s 1 y ∙ ap (λ (x : ℕ). s / 2 ^ x) (add_comm 1 y ∙ add-one y)) ∙ bit_of_lem s (suc y) h)
+
+-- and no point is below it
+pub lowest_least : (w s y : ℕ) → In s y → count_trailing_zeros w s ≤ y
+unfolding count_trailing_zeros
+lowest_least zero s y h = omega arith
+lowest_least (suc w) s zero h = go (s % 2) (sym (ap (λ (x : ℕ). x % 2) (div-one s)) ∙ bit_of_lem s 0 h)
+  where
+    go : (b : ℕ) → b ≡ 1 → under b (count_trailing_zeros w (s / 2)) ≤ 0
+    go zero e = absurd (omega (arith, e))
+    go (suc b) e = omega arith
+lowest_least (suc w) s (suc y) h = go (s % 2) (lowest_least w (s / 2) y (in_half s y h))
+  where
+    go : (b : ℕ) → count_trailing_zeros w (s / 2) ≤ y → under b (count_trailing_zeros w (s / 2)) ≤ suc y
+    go zero l = omega (arith, l)
+    go (suc b) l = omega arith
+
 -- the shift in 64 bits that makes a point's bit
 pub shifted : (x : ℕ) → x < 64 → 1 * 2 ^ x % 2 ^ 64 ≡ 2 ^ x
 shifted x h = rw (one-mul (2 ^ x)) (mod-eq_of_lt (pow-lt h))
 
 -- the lowest point taken out of a number of 64 bits
-pub lowest_taken : (s : ℕ) → (s ≡ 0 → ⊥) → s < 2 ^ 64 → let x = count_trailing_zeros 64 s in let b = 1 * 2 ^ x % 2 ^ 64 in (b ≤ s) × In s x × (x < 64) × (s - b ≡ remove s x) × (s - b < s)
+pub lowest_taken : (s : ℕ) → (s ≡ 0 → ⊥) → s < 2 ^ 64 → let x = count_trailing_zeros 64 s in let b = 1 * 2 ^ x % 2 ^ 64 in (b ≤ s) × In s x × (x < 64) × (s - b ≡ remove s x) × (s - b < s) × ((y : ℕ) → In s y → x ≤ y)
 lowest_taken s h l =
     let x = count_trailing_zeros 64 s in
     let r = lowest_in 64 64 s (omega arith) (omega arith) l in
-    rw (shifted x r.1) (own_le s x r.0, r.0, r.1, sym (taken s x r.0), rest_less s x r.0)
+    rw (shifted x r.1) (own_le s x r.0, r.0, r.1, sym (taken s x r.0), rest_less s x r.0, λ y i. lowest_least 64 s y i)

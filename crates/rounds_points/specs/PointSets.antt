@@ -7,9 +7,9 @@ use Rattle.plan.specs.Plan.{Plan}
 abbrev pub In : ℕ → ℕ → Type 0
 In set y = Is (contains set y)
 
--- a call of `next` takes a point out of a set and leaves the rest; an empty set has none
+-- a call of `next` takes the lowest point out of a set and leaves the rest; an empty set has none
 abbrev pub TakesPoint : ℕ → Option ℕ → ℕ → Type 0
-TakesPoint s r t = MatchOption r ((s ≡ 0) × (t ≡ 0)) (λ x. In s x × (x < 64) × (t ≡ remove s x) × (t < s))
+TakesPoint s r t = MatchOption r ((s ≡ 0) × (t ≡ 0)) (λ x. In s x × (x < 64) × (t ≡ remove s x) × (t < s) × ((y : ℕ) → In s y → x ≤ y))
 
 -- for each of n points a set of points below n
 pub record Sets (n : ℕ) (sets : List ℕ) : Type 0 where

@@ -4,7 +4,7 @@ use Rattle.rounds_points.proofs.PointSets.{lowest_taken}
 use Rattle.rounds_points.proofs.sets.PointSet.take_lowest.Goals as goal
 
 pub overflow_sub-self : goal.overflow_sub-self
-overflow_sub-self c = (lowest_taken c.self.inside.bits c.if-self-eq0.false (omega arith)).0
+overflow_sub-self c = omega (arith, (lowest_taken c.self.inside.bits c.if-self-eq0.false (omega arith)).0)
 
 pub returns : goal.returns
-returns c = let r = lowest_taken c.self.inside.bits c.if-self-eq0.false (omega arith) in rw (← c.self.view_is) (r.1, r.2, r.3, r.4)
+returns c = let r = lowest_taken c.self.inside.bits c.if-self-eq0.false (omega arith) in rw (← c.self.view_is) (r.1, r.2, r.3, r.4, r.5)
