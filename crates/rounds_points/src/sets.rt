@@ -1,8 +1,8 @@
 // Sets of points, of which a plan has at most 32: a number with a bit for each.
 ghost use Rattle.std.specs.Prelude.{◌≡◌, ◌-◌, ◌^◌, ◌<◌, ◌≤◌, eqb};
 ghost use Rattle.std.specs.Int.Bits.{bit_or, bit_and};
-ghost use Rattle.plan.specs.LinkSet.{contains};
-ghost use Rattle.rounds_points.specs.PointSets.{TakesPoint};
+ghost use Rattle.plan.specs.LinkSet.{contains, remove};
+ghost use Rattle.rounds_points.specs.PointSets.{In, TakesPoint};
 ghost use Rattle.std.specs.Iterator.{at_most};
 
 use std::marker::Model;
@@ -66,6 +66,16 @@ impl PointSet {
         ensures { self.new ≡ bit_or self.old (2 ^ x) }
     {
         self.bits |= 1 << x;
+    }
+
+    // The set with point x taken out.
+    pub fn without(self, x: usize) -> Self
+        requires { In self x × (x < 32) }
+        ensures { (result ≡ remove self x) × (result < self) }
+    {
+        PointSet {
+            bits: self.bits - (1 << x),
+        }
     }
 
     pub fn union(self, other: PointSet) -> Self
