@@ -156,9 +156,8 @@ pub record Filling (bs M : List ℕ) (h : ℕ) (F G L C N D : List ℕ) (rows : 
   pub unaffected : Unaffected (plan_with bs h) (take (cells (plan_of bs)) F) set
 
 -- what finding the points to fill is lent; the code's number n is the points
-pub to_fill_lends : {bs M : List ℕ} {h : ℕ} {F G L C N D : List ℕ} {last : Round} → RoundReady bs M h F G L C N D last → (n : ℕ) → n ≡ (plan_of bs).points → (last.changed < 2 ^ n) × (last.lined < 2 ^ n) × (0 < n)
-to_fill_lends {bs} {M} {h} r n e = let two = (with_well_formed bs r.ready.accepted h r.ready.horizon_far).two in
-    (rw e r.known.changed_in.below, rw e r.known.lined_in.below, omega arith)
+pub to_fill_lends : (P : Plan) (sets : List ℕ) (n changed lined : ℕ) → n ≡ P.points → Dependents P sets → changed < 2 ^ P.points → lined < 2 ^ P.points → 1 < P.points → Sets n sets × (changed < 2 ^ n) × (lined < 2 ^ n) × (0 < n)
+to_fill_lends P sets n changed lined e d c l two = (rw e d.are_sets, rw e c, rw e l, omega arith)
 
 -- the points that a round concerns are such a set
 pub filling : {bs M : List ℕ} {h : ℕ} {F G L C N D : List ℕ} {last : Round} → RoundReady bs M h F G L C N D last → {rows : Rows} {sets : List ℕ} {w mask givers n : ℕ} (set : ℕ) → rows.plan.now ≡ bs → FillNumbers bs w mask → Dependents (plan_of bs) sets → Givers (plan_of bs) givers

@@ -7,7 +7,7 @@ use native.Mathlib.Decide.{ℕ_discrete}
 use native.Mathlib.Omega.{arith}
 use lib.Bits.{bit_or}
 use lib.ListN.{length, get_or}
-use lib.Pow.{pow_pos}
+use lib.Pow.{pow_pos, pow_mono}
 use borrow.Author.Count.{below_none, below_more}
 use Rattle.plan.specs.LinkSet.{remove}
 use Rattle.plan.specs.Plan.{Plan}
@@ -49,6 +49,10 @@ module _ (sets : List ℕ) (n changed : ℕ) where
       go y x (inr a) = a
 
   module _ (are : Sets n sets) (left found : ℕ) (f : Found left found) where
+    -- the points left are below 32
+    pub left_few : left < 2 ^ 32
+    left_few = omega (arith, f.left_below, pow_mono {i = n} {j = 32} are.few)
+
     module _ (y : ℕ) (h : In left y) where
       pub lowest_below : (y < n) × (y < length sets)
       lowest_below = let l = point_below left n y h f.left_below in (l, omega (arith, are.long))

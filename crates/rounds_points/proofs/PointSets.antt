@@ -122,6 +122,18 @@ in_second s t y h = in_first t s y (rw (and_comm s t) at h)
 pub apart : (s t y : ℕ) → bit_and s t ≡ 0 → In s y → In t y → ⊥
 apart s t y e h k = none_in y (rw e at (in_both s t y h k))
 
+-- point 0
+pub zero_in : (s : ℕ) → (bit_and s 1 ≡ 0 → ⊥) → In s 0
+zero_in s h =
+    let e : bit_and s 1 ≡ s % 2 = and_mask s 1 in
+    in_of s 0 (ap (λ (x : ℕ). x % 2) (div-one s) ∙ go (s % 2) (mod-lt s (lit< tt)) (λ z. h (e ∙ z)))
+  where
+    go : (b : ℕ) → b < 2 → (b ≡ 0 → ⊥) → b ≡ 1
+    go b l k = omega arith
+
+pub zero_out : (s : ℕ) → bit_and s 1 ≡ 0 → In s 0 → ⊥
+zero_out s e h = apart s 1 0 e h (own_bit 0)
+
 -- ---- all points below a bound
 pub in_all : (n y : ℕ) → y < n → In (2 ^ n - 1) y
 in_all n y h =

@@ -8,7 +8,7 @@ use native.Mathlib.Nat.{le_refl, add-zero, suc-mul, mul-le-mul_right}
 use native.Mathlib.Numerals.{add-one}
 use native.Mathlib.Omega.{arith}
 use borrow.Rule.Slice.PartMut.{put_mid, same_len_mid}
-use lib.ListN.{length, get_or, take, drop, replicate, set, length-take, length-drop, length-replicate}
+use lib.ListN.{length, get_or, take, drop, replicate, set, length-take, length-drop, length-replicate, get_or-replicate}
 use lib.Seq.{take-suc, take-take, length-take-le, get_or-take, take_all}
 use Rattle.plan.specs.Plan.{Plan, width, cells}
 use Rattle.plan.specs.Layout.{plan_of}
@@ -20,7 +20,7 @@ use Rattle.rules_fill.specs.Parts.{next_cells, AtMost, laid_over, next_part}
 use Rattle.rules.proofs.Next.{next_is}
 use Rattle.rules_fill.proofs.ShapeLaws.{row_in}
 use Rattle.rules_fill.specs.Lent.{Lent}
-use Rattle.rules_fill.proofs.Laying.{lent_part, laid_part_back}
+use Rattle.rules_fill.proofs.Laying.{laid_more, lent_part, laid_part_back}
 use Rattle.rounds_tables.specs.Cells.{same, any_above}
 use Rattle.rounds_points.specs.PointSets.{In}
 use Rattle.rounds_tables.specs.Ready.{Ready, SameOutside, Compared}
@@ -100,6 +100,10 @@ above_nowhere A n z = go (any_above (take n A)) refl
 pub laid_zeros : (n : ℕ) (B Z : List ℕ) → n ≤ length B → Z ≡ replicate (length (take n B)) 0 → Z ++ drop n B ≡ laid_over n (replicate n 0) B
 unfolding laid_over
 laid_zeros n B Z h e = ap (λ (l : List ℕ). l ++ drop n B) (e ∙ ap (λ (m : ℕ). replicate m 0) (length-take-le n B h) ∙ sym (take_all n (replicate n 0) (rw length-replicate (omega arith))))
+
+-- one cell more is cleared
+pub laid_cleared : (n c : ℕ) (B C : List ℕ) → c < n → c < length B → C ≡ laid_over c (replicate n 0) B → set C c 0 ≡ laid_over (c + 1) (replicate n 0) B
+laid_cleared n c B C h k e = ap₂ (λ (l : List ℕ) (v : ℕ). set l c v) e (sym (get_or-replicate n c 0 0 h)) ∙ laid_more c (replicate n 0) B (rw length-replicate h) k
 
 -- ---- a round, point by point
 -- a point's row lies within the cells

@@ -1,10 +1,15 @@
 -- The calls follow one another, each lent what the last one left.
 use mathlib.Core.Path.{refl, ◌∙◌}
+use Rattle.plan.proofs.Horizons.{with_well_formed}
 use Rattle.rounds_making.proofs.RoundByRound.{to_fill_lends, filling, fill_lends, settle_lends, lined_lends, over_lends, stops_lends, round_ends}
 use Rattle.rounds_making.proofs.making.Reading.make_round.Goals as goal
 
 pub points_to_fill-set-requires : goal.points_to_fill-set-requires
-points_to_fill-set-requires c = to_fill_lends c.requires _ c.args.self.now.points_are
+points_to_fill-set-requires c = let s = c.args.self.now in
+    let r = c.requires in
+    let wf = with_well_formed _ r.ready.accepted _ r.ready.horizon_far in
+    let t = to_fill_lends _ _ _ _ _ s.points_are s.dependents_are r.known.changed_in.below r.known.lined_in.below wf.two in
+    (t.1, t.2, t.3)
 
 pub next_round-requires : goal.next_round-requires
 next_round-requires c = fill_lends (filling c.requires {rows = c.args.self.now.rows.now} _ c.args.self.now.rows_are c.args.self.now.numbers c.args.self.now.dependents_are c.args.self.now.givers_are c.args.self.now.points_are c.points_to_fill-set.ensures)
