@@ -48,7 +48,7 @@ module _ {Q P : Plan} (f : FewerRows Q P) where
       edge_as (PlanEdge j) k (λ t. record { from = s.from_is t; to = s.to_is t; label = s.label_is t; up = s.up_is t; down = s.down_is t })
   rule_as (Propagation (HorizonEdge x)) h = edge_as (HorizonEdge x) (h.0, rw f.points_are at h.1) (rw f.horizon_is)
   rule_as (Propagation (UpperBound i)) h = edge_as (UpperBound i) (rw f.links_are at h) (rw (f.activation_is i h, f.finish_is i h, f.most_is i h))
-  rule_as (Propagation (LowerBound i)) h = edge_as (LowerBound i) (rw f.links_are at h) (rw (f.activation_is i h, f.finish_is i h, f.least_is i h))
+  rule_as (Propagation (LowerBound i)) h = edge_as (LowerBound i) (rw f.links_are at h) (cc (f.activation_is i h, f.finish_is i h, f.least_is i h, f.most_is i h))
   rule_as (LowerCase i) h = record { rule = LowerCase i; row = rw f.links_are at h; fires_as = λ l m. rw (f.finish_is i h, f.least_is i h, f.propositions_are); gives_as = λ l m. rw (f.activation_is i h, f.least_is i h) }
   rule_as (UpperCase i) h = record { rule = UpperCase i; row = rw f.links_are at h; fires_as = λ l m. rw (f.activation_is i h, f.propositions_are); gives_as = λ l m. rw (f.finish_is i h, f.most_is i h) }
   rule_as (LetterRemoval i) h = record { rule = LetterRemoval i; row = rw f.links_are at h; fires_as = λ l m. rw (f.activation_is i h); gives_as = λ l m. rw (f.least_is i h, f.propositions_are) }
