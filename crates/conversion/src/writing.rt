@@ -5,7 +5,7 @@ ghost use Rattle.plan.specs.Layout.{plan_of, length_for};
 ghost use Rattle.plan.specs.Forms.{relabelled};
 ghost use Rattle.plan.specs.Refusal.{Accepted};
 
-use plan::{label_bytes, labels_at, length_for};
+use plan::{copy_elements, label_bytes, labels_at, length_for};
 
 // The plan with so many labels 0 in place of those that it has, from the start of out on; how many bytes it has.
 pub fn write_relabelled(plan: &[u8], labels: usize, out: &mut [u8]) -> usize
@@ -18,8 +18,8 @@ pub fn write_relabelled(plan: &[u8], labels: usize, out: &mut [u8]) -> usize
     let start = labels_at(plan);
     let rows = start + labels;
     let end = length_for(plan) + labels;
-    out[..start].copy_from_slice(&plan[..start]);
+    copy_elements(&mut out[..start], &plan[..start]);
     out[start..rows].fill(0);
-    out[rows..end].copy_from_slice(&plan[start + label_bytes(plan)..]);
+    copy_elements(&mut out[rows..end], &plan[start + label_bytes(plan)..]);
     end
 }

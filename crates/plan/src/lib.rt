@@ -3,6 +3,7 @@
 
 mod bounds;
 mod bytes;
+mod copying;
 mod edge_rows;
 mod fields;
 mod label;
@@ -12,6 +13,7 @@ mod refusal;
 
 pub use bounds::{horizon, largest};
 pub use bytes::{byte_at, word_at};
+pub use copying::copy_elements;
 pub use edge_rows::EdgeRows;
 pub use fields::{
     cells, data_at, edge_down, edge_from, edge_label, edge_row, edge_to, edge_up, edges, ends_at,

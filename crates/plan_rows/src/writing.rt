@@ -7,7 +7,7 @@ ghost use Rattle.plan.specs.Refusal.{Accepted};
 ghost use Rattle.plan_rows.specs.Rows.{with_rows, marked};
 ghost use Rattle.plan_rows.specs.RowBytes.{RowsIn, rows_bytes};
 
-use plan::{data_at, edge_row, ends_at, label_bytes, labels_at, links};
+use plan::{copy_elements, data_at, edge_row, ends_at, label_bytes, labels_at, links};
 
 // The numbers of the rows with mark 1 among the first n, in order, from the start of numbers on; how many there are. A list that grows needs a heap, so the
 // memory is fixed and lent, and the count comes back beside it.
@@ -32,7 +32,7 @@ fn put_part(plan: &[u8], from: usize, count: usize, out: &mut [u8], at: usize)
     requires { (from + count ≤ length plan.now) × (at + count ≤ length out.old) }
     ensures { out.new ≡ put_mid at count out.old (take count (drop from plan.now)) }
 {
-    out[at..at + count].copy_from_slice(&plan[from..from + count]);
+    copy_elements(&mut out[at..at + count], &plan[from..from + count]);
 }
 
 // The bytes of the plan with these rows, from the start of out on; how many there are. Byte 3 counts the rows.

@@ -7,7 +7,7 @@ ghost use Rattle.rules_fill.specs.Parts.{laid_over};
 ghost use Rattle.rules_fill.specs.Cells.{JoinsIn, AllJoin, PropagatorLent, RemoverLent, RemoveAtLent, RemoveRunLent, remove_step_by, remove_steps_by};
 
 use crate::shapes::{Propagator, Remover, cleared, joined, propagated, removed, touches};
-use plan::cell_at;
+use plan::{cell_at, copy_elements};
 
 fn raise(part: &mut [u32], place: usize, wait: u64)
     requires { (place < length part.old) × (wait < 4294967296) }
@@ -25,7 +25,7 @@ pub fn copy_cells(source: &[u32], target: &mut [u32], n: usize)
     ensures target_value { target.new ≡ laid_over n source.now target.old }
     ensures same_length { SameLength target }
 {
-    target[..n].copy_from_slice(&source[..n]);
+    copy_elements(&mut target[..n], &source[..n]);
 }
 
 // Rules 1 to 3, from all cells of one point.

@@ -18,49 +18,49 @@ fits c = let bs = c.args.plan.now in
     let a = c.requires.accepted.0 in
     (omega (arith, reaches bs a, accepted_length bs a), omega (arith, accepted_length bs a))
 
-pub slice_bounds-copy_from_slice-end : goal.slice_bounds-copy_from_slice-end
-slice_bounds-copy_from_slice-end c = omega (arith, fits (goal.at.slice_bounds-copy_from_slice-end c).After-length_for)
+pub slice_bounds-copy_elements-end : goal.slice_bounds-copy_elements-end
+slice_bounds-copy_elements-end c = omega (arith, fits (goal.at.slice_bounds-copy_elements-end c).After-length_for)
 
-pub slice_bounds-copy_from_slice-end-2 : goal.slice_bounds-copy_from_slice-end-2
-slice_bounds-copy_from_slice-end-2 c = sym (length-take-le _ _ (omega (arith, fits (goal.at.slice_bounds-copy_from_slice-end-2 c).After-length_for)))
+pub slice_bounds-copy_elements-end-2 : goal.slice_bounds-copy_elements-end-2
+slice_bounds-copy_elements-end-2 c = sym (length-take-le _ _ (omega (arith, fits (goal.at.slice_bounds-copy_elements-end-2 c).After-length_for)))
 
-pub slice_bounds-copy_from_slice-end-3 : goal.slice_bounds-copy_from_slice-end-3
-slice_bounds-copy_from_slice-end-3 c = sym (length-take-le _ _ (omega (arith, fits (goal.at.slice_bounds-copy_from_slice-end-3 c).After-length_for)))
+pub slice_bounds-copy_elements-end-3 : goal.slice_bounds-copy_elements-end-3
+slice_bounds-copy_elements-end-3 c = sym (length-take-le _ _ (omega (arith, fits (goal.at.slice_bounds-copy_elements-end-3 c).After-length_for)))
 
-pub copy_from_slice-requires : goal.copy_from_slice-requires
-copy_from_slice-requires c =
-    let f = fits (goal.at.copy_from_slice-requires c).After-length_for in
+pub copy_elements-requires : goal.copy_elements-requires
+copy_elements-requires c =
+    let f = fits (goal.at.copy_elements-requires c).After-length_for in
     length-take-le _ _ (omega (arith, f)) ∙ sym (length-take-le _ _ (omega (arith, f)))
 
 pub slice_bounds-fill-end : goal.slice_bounds-fill-end
 slice_bounds-fill-end c =
     let f = fits (goal.at.slice_bounds-fill-end c).After-length_for in
-    let l = c.copy_from_slice.ensures.len in
+    let l = ap length c.copy_elements.ensures in
     search (rules, overwrites)
 
-pub slice_bounds-copy_from_slice-count : goal.slice_bounds-copy_from_slice-count
-slice_bounds-copy_from_slice-count c = omega (arith, fits (goal.at.slice_bounds-copy_from_slice-count c).After-length_for)
+pub slice_bounds-copy_elements-count : goal.slice_bounds-copy_elements-count
+slice_bounds-copy_elements-count c = omega (arith, fits (goal.at.slice_bounds-copy_elements-count c).After-length_for)
 
-pub slice_bounds-copy_from_slice-start : goal.slice_bounds-copy_from_slice-start
-slice_bounds-copy_from_slice-start c = omega (arith, fits (goal.at.slice_bounds-copy_from_slice-start c).After-length_for)
+pub slice_bounds-copy_elements-start : goal.slice_bounds-copy_elements-start
+slice_bounds-copy_elements-start c = omega (arith, fits (goal.at.slice_bounds-copy_elements-start c).After-length_for)
 
-pub slice_bounds-copy_from_slice-count-2 : goal.slice_bounds-copy_from_slice-count-2
-slice_bounds-copy_from_slice-count-2 c = omega (arith, fits (goal.at.slice_bounds-copy_from_slice-count-2 c).After-length_for)
+pub slice_bounds-copy_elements-count-2 : goal.slice_bounds-copy_elements-count-2
+slice_bounds-copy_elements-count-2 c = omega (arith, fits (goal.at.slice_bounds-copy_elements-count-2 c).After-length_for)
 
-pub slice_bounds-copy_from_slice-start-2 : goal.slice_bounds-copy_from_slice-start-2
-slice_bounds-copy_from_slice-start-2 c = omega (arith, fits (goal.at.slice_bounds-copy_from_slice-start-2 c).After-length_for)
+pub slice_bounds-copy_elements-start-2 : goal.slice_bounds-copy_elements-start-2
+slice_bounds-copy_elements-start-2 c = omega (arith, fits (goal.at.slice_bounds-copy_elements-start-2 c).After-length_for)
 
-pub copy_from_slice-requires-2 : goal.copy_from_slice-requires-2
-copy_from_slice-requires-2 c =
-    let f = fits (goal.at.copy_from_slice-requires-2 c).After-length_for in
+pub copy_elements-requires-2 : goal.copy_elements-requires-2
+copy_elements-requires-2 c =
+    let f = fits (goal.at.copy_elements-requires-2 c).After-length_for in
     search (rules, overwrites)
 
 pub returns-clause-out_value : goal.returns-clause-out_value
 returns-clause-out_value c = let bs = c.args.plan.now in
     let O = c.args.out.now in
     let f = fits (goal.at.returns-clause-out_value c).After-length_for in
-    let x : c.copy_from_slice.new.self ≡ take (labels_at bs) bs = search rules in
-    let l = c.copy_from_slice.ensures.len ∙ length-take-le _ _ (omega (arith, f)) in
+    let x : c.copy_elements.new.target ≡ take (labels_at bs) bs = search rules in
+    let l = ap length c.copy_elements.ensures ∙ length-take-le _ _ (omega (arith, f)) in
     let y : c.fill.new.self ≡ replicate c.args.labels 0 = c.fill.ensures.after (λ y e. e) ∙ ap (λ n. replicate n 0) (length-take-le _ _ (rw (length-drop, length-append, length-drop) (omega (arith, f, l))) ∙ omega arith) in
-    let z : c.copy_from_slice-2.new.self ≡ drop (labels_at bs + label_bytes bs) bs = search (rules, overwrites) in
+    let z : c.copy_elements-2.new.target ≡ drop (labels_at bs + label_bytes bs) bs = search (rules, overwrites) in
     rw (x, y, z, c.labels_at-start.ensures.0) (three_parts (take (labels_at bs) bs) (replicate c.args.labels 0) (drop (labels_at bs + label_bytes bs) bs) O (labels_at bs) c.args.labels c.length_for.result (length-take-le _ _ (omega (arith, f))) (length-replicate _ _) (omega (arith, f)) (omega (arith, f)))

@@ -8,4 +8,4 @@ use Rattle.rules_fill.proofs.cells.copy_cells.Goals as goal
 
 pub returns-clause-target_value : goal.returns-clause-target_value
 unfolding laid_over
-returns-clause-target_value c = ap (λ (A : List ℕ). A ++ drop c.args.n c.args.target.now) c.copy_from_slice.ensures.after
+returns-clause-target_value c = ap (λ (A : List ℕ). A ++ drop c.args.n c.args.target.now) c.copy_elements.ensures
