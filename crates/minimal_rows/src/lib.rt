@@ -4,4 +4,5 @@
 mod reducing;
 mod trials;
 
-pub use reducing::breaking_rows;
+pub use reducing::{Progress, breaking_rows};
+pub use trials::Trial;

@@ -16,10 +16,10 @@ use rounds::{enough_rounds, run_from_zeros};
 
 // How far the rows have been tried: the next row, the row after the last one that was needed, and how many to try at once.
 #[derive(Clone, Copy)]
-struct Progress {
-    next: usize,
-    start: usize,
-    count: usize,
+pub struct Progress {
+    pub next: usize,
+    pub start: usize,
+    pub count: usize,
     ghost within: { Within next start count },
 }
 

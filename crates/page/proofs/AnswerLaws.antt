@@ -9,7 +9,7 @@ use lib.Dec.{eqb}
 use lib.ListN.{length, get_or, drop}
 use lib.Seq.{sets-eq}
 use borrow.Author.Rules.{rules}
-use borrow.Author.Tests.{lt-ltb, le-ltb, le-leb, eq-eqb}
+use borrow.Author.Tests.{lt-ltb, le-ltb, le-leb, eq-eqb, ne_eqb}
 use Rattle.plan.specs.Counting.{count}
 use Rattle.plan.specs.Plan.{cells}
 use Rattle.plan.specs.Layout.{plan_of}
@@ -29,8 +29,8 @@ refuses (printed n) = false
 refuses (refused n) = true
 
 -- no refusal has the number 0
-some_number : (r : Refusal) → not (eqb (number_of r) 0) ≡ true
-some_number r = search rules
+some_number : (r : Refusal) → number_of r ≡ 0 → ⊥
+some_number r z = grind arith
 
 module _ (bs T out : List ℕ) where
   abbrev Answered : PageOutcome → List ℕ → Type 0
@@ -41,9 +41,12 @@ module _ (bs T out : List ℕ) where
   unfolding page_output
   answered_refused n e = record { outcome_is = sym e; output_is = rw e refl; fixed = λ m q. absurd (true≢false (ap refuses q)) }
 
-  pub by_plan : (r : Refusal) → number_of r ≡ refusal bs → Answered (refused (number_of r)) out
+  pub by_plan : (m : ℕ) → m ≡ refusal bs → (m ≡ 0 → ⊥) → Answered (refused m) out
   unfolding page_outcome
-  by_plan r e = answered_refused (number_of r) (rw (← e, some_number r) refl)
+  by_plan m e h = answered_refused m (rw (← e, ne_eqb m 0 h) refl)
+
+  pub by_refusal : (r : Refusal) → number_of r ≡ refusal bs → Answered (refused (number_of r)) out
+  by_refusal r e = by_plan (number_of r) e (some_number r)
 
   module _ (accepted : Accepted bs) where
     pub by_table : length T < cells (plan_of bs) → Answered (refused 6) out

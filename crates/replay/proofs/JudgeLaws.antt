@@ -1,5 +1,5 @@
 -- Laws of replay's functions: what an accepted plan bounds, the parents of a line, the lines one by one, and what the number that replay answers says.
-use mathlib.Core.Path.{◌≡◌, refl, sym, subst, ◌∙◌}
+use mathlib.Core.Path.{◌≡◌, refl, sym, ap, subst, ◌∙◌}
 use mathlib.Core.Bool.{Bool, true, false, cond, not, ◌||◌}
 use mathlib.Core.List.{List}
 use Prim.Native.Nat.{ℕ, zero, suc, ◌+◌, ◌-◌, ◌^◌, ◌≤◌, ◌<◌}
@@ -10,7 +10,7 @@ use native.Mathlib.Omega.{arith}
 use borrow.Author.Tests.{ne_eqb, ltb-false}
 use lib.Dec.{T as Is, ltb, eqb, ltb→lt, eqb→eq}
 use lib.Ieee.Fits.{and_l, and_r}
-use Rattle.std.specs.Prelude.{Result, IsErrAnd}
+use Rattle.std.specs.Prelude.{Option, Some, Result, IsErrAnd}
 use Rattle.std.proofs.lemmas.Result.{err_from_is_err_and}
 use Rattle.plan.specs.declared.refusal.Refusal.{Refusal}
 use Rattle.plan.specs.Numbers.{number_of, refusal_number}
@@ -27,8 +27,8 @@ use Rattle.rules.specs.Derivations.{InPlan}
 use Rattle.rules.specs.Rules.{uses_second}
 use Rattle.rules_apply.specs.Applicable.{InLabels, Applicable}
 use Rattle.rules_apply.proofs.ApplyLaws.{told_not}
-use Rattle.replay.specs.Listings.{head_line, first_parent, second_parent, parent_line}
-use Rattle.replay.specs.Replaying.{parents_known, judge_line, judge_lines, replay}
+use Rattle.replay.specs.Listings.{head_line, head_rule, row_of, rule_of, first_parent, second_parent, parent_line}
+use Rattle.replay.specs.Replaying.{in_range, parents_known, judge_rule, judge_line, judge_lines, replay}
 use Rattle.replay.specs.Derives.{ListingDerives}
 use Rattle.replay.specs.AfterReplay.{AfterReplay}
 use Rattle.replay.specs.Judging.{Judging}
@@ -111,3 +111,12 @@ replayed plan bs r e = record { number_is = e; accepted_derives = derives; deriv
 pub plan_refused : (plan bs : List ℕ) (r : ℕ) → r ≡ refusal plan → (r ≡ 0 → ⊥) → r ≡ replay plan bs
 unfolding replay
 plan_refused plan bs r e n = rw (← e, ne_eqb r 0 n)
+
+-- ---- a line in range, by the rule that it names
+module _ (P : Plan) (bs : List ℕ) (i : ℕ) (x : Option Rule) (rule row : ℕ) (is : x ≡ rule_of P rule row) (l : Line) (r : Bool) (line_is : l ≡ head_line bs i) (range_is : r ≡ in_range P l) (in_range_lem : not r ≡ false) (rule_is : rule ≡ head_rule bs i) (row_is : row ≡ row_of bs i) where
+  judged_by : judge_line P bs i ≡ judge_rule P bs i x
+  unfolding judge_line
+  judged_by = rw (← line_is, ← range_is, in_range_lem, ← rule_is, ← row_is, ← is)
+
+  pub by_rule_lem : (by : Rule) (v : ℕ) → x ≡ Some by → v ≡ judge_rule P bs i (Some by) → v ≡ judge_line P bs i
+  by_rule_lem by v e f = f ∙ sym (judged_by ∙ ap (judge_rule P bs i) e)

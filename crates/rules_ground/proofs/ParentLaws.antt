@@ -2,7 +2,7 @@
 use mathlib.Core.Path.{◌≡◌, refl, sym, ap, ap₂, subst, ◌∙◌}
 use mathlib.Core.Bool.{Bool, true, false}
 use mathlib.Core.List.{List}
-use Prim.Native.Nat.{ℕ, ◌+◌, ◌-◌, ◌*◌, ◌≤◌, ◌<◌}
+use Prim.Native.Nat.{ℕ, ◌+◌, ◌-◌, ◌*◌, ◌≤◌, ◌<◌, min}
 use native.Mathlib.Nat.{zero-mod, add_assoc}
 use native.Mathlib.Omega.{arith}
 use lib.Bits.{bit_and, bit_or}
@@ -103,6 +103,12 @@ module _ (P : Plan) (T : List ℕ) where
     -- rules 4 and 6 give the lesser of two waits
     pub short_first : (r : Rule) → uses_second r ≡ true → (v : ℕ) → v ≡ get_or T c 0 → v < k.wait → FirstAt P T k r c → ⊥
     short_first r t v e h f = omega (arith, two_wait P r t (line_at P T c) (line_at P T f.second), ap (λ (z : Line). z.wait) f.ground.gave)
+
+    pub other_wait_lem : (r : Rule) → uses_second r ≡ true → (d a b w n : ℕ) → a ≡ get_or T c 0 → b ≡ get_or T d 0 → w ≡ down_of P r → n ≡ min a (b + w) → (n ≡ k.wait → ⊥) → SecondAt P T k r c d → ⊥
+    other_wait_lem r t d a b w n ea eb ew en h g = h (en ∙ same ∙ sym (two_wait P r t (line_at P T c) (line_at P T d)) ∙ ap (λ (z : Line). z.wait) g.gave)
+      where
+        same : min a (b + w) ≡ min (get_or T c 0) (get_or T d 0 + down_of P r)
+        same = rw (ea, eb, ew) refl
 
     -- rules of one parent take their weight from its wait
     pub light_first : (r : Rule) → uses_second r ≡ false → (v u w : ℕ) → v ≡ get_or T c 0 → u ≡ up_of P r → w ≡ down_of P r → v + w < u → FirstAt P T k r c → ⊥

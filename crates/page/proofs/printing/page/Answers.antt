@@ -15,7 +15,7 @@ use Rattle.plan.proofs.Tests.{denied, granted}
 use Rattle.page.specs.Page.{above, wait_fits}
 use Rattle.plan.proofs.CountLaws.{count_few}
 use Rattle.text.proofs.Puts.{written}
-use Rattle.page.proofs.AnswerLaws.{by_plan, by_table, by_wait, by_room, printable, answered_printed}
+use Rattle.page.proofs.AnswerLaws.{by_refusal, by_table, by_wait, by_room, printable, answered_printed}
 use Rattle.page.proofs.PageLaws.{page_room}
 use Rattle.page.proofs.printing.page.Goals as goal
 
@@ -30,7 +30,7 @@ fit bs T e q t = rw (← e) (granted q t)
 pub returns-in_err-refusal : goal.returns-in_err-refusal
 returns-in_err-refusal c =
     let p = err_from_is_err_and c.from_residual.result c.from_residual.ensures.1 in
-    rw (p.1, p.2) (by_plan c.args.plan.now c.args.table.now c.args.out.now _ c.in_err-refusal.ensures)
+    rw (p.1, p.2) (by_refusal c.args.plan.now c.args.table.now c.args.out.now _ c.in_err-refusal.ensures)
 
 pub cells-end-requires : goal.cells-end-requires
 cells-end-requires c = sizes_few c.args.plan.now (sym c.in_ok-refusal.ensures)
