@@ -143,6 +143,10 @@ fn edges_well_defined(plan: &[u8]) -> bool
     requires { (plan_of plan.now).propositions ≤ 4 }
     ensures { result ≡ every (edge_well_defined (plan_of plan.now)) (plan_of plan.now).edges }
 {
+    // With no proposition no label has a digit that another could lack.
+    if propositions(plan) == 0 {
+        return true;
+    }
     (0..edges(plan)).all(|i| edge_well_defined(plan, i))
 }
 
