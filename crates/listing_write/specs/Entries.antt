@@ -1,4 +1,4 @@
--- For inner contracts only: what the functions that write a round's lines are lent and leave. None here is to be believed.
+-- For inner contracts only: what the functions that write a round's lines are lent and leave. Nothing here is to be believed.
 use Rattle.std.specs.Prelude.{◌≡◌, List, ℕ, ◌+◌, ◌<◌, length, get_or, Option, Some, None}
 use Rattle.plan.specs.Plan.{Plan, cells}
 use Rattle.plan.specs.Layout.{plan_of}

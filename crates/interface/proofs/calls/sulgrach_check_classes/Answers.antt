@@ -1,4 +1,4 @@
--- What the check answers, as a code and a count.
+-- What the check by classes answers, as a code and a count.
 use Rattle.interface.proofs.calls.sulgrach_check_classes.Goals as goal
 
 pub returns : goal.returns
