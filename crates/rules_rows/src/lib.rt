@@ -5,5 +5,5 @@ mod numbers;
 mod reading;
 mod rows;
 
-pub use numbers::EdgeNumbers;
+pub use numbers::{EdgeNumbers, LinkNumbers};
 pub use rows::Rows;

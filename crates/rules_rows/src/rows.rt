@@ -15,10 +15,10 @@ use rules_fill::{Propagator, Remover, digit_bit, digit_mask, link_bit};
 #[derive(Drop)]
 pub struct Rows<'a> {
     pub plan: &'a [u8],
-    observers: [u8; 4],
-    links: [LinkNumbers; 4],
-    first: &'a [Option<u8>; 32],
-    edges: &'a [EdgeNumbers; 128],
+    pub observers: [u8; 4],
+    pub links: [LinkNumbers; 4],
+    pub first: &'a [Option<u8>; 32],
+    pub edges: &'a [EdgeNumbers; 128],
     ghost accepted: { Accepted plan.now },
     ghost read: { RowsRead (plan_of plan.now) observers links first.now edges.now },
 }
