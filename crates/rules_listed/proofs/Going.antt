@@ -1,10 +1,10 @@
 -- A loop over listed places under way: the steps of the places passed are made, and the part is the same beside.
-use mathlib.Core.Path.{◌≡◌, refl, sym, ap, subst, ◌∙◌}
+use mathlib.Core.Path.{◌≡◌, refl, sym, ap, ap₂, subst, ◌∙◌}
 use mathlib.Core.List.{List}
-use Prim.Native.Nat.{ℕ, ◌+◌, ◌*◌, ◌≤◌, ◌<◌}
+use Prim.Native.Nat.{ℕ, ◌+◌, ◌-◌, ◌*◌, ◌≤◌, ◌<◌}
 use native.Mathlib.Nat.{zero-add}
 use native.Mathlib.Omega.{arith}
-use lib.ListN.{length, get_or, drop, length-drop}
+use lib.ListN.{length, get_or, take, drop, length-drop}
 use lib.Seq.{get_or-take, get_or-drop, length-take-le}
 use Rattle.rules_fill.proofs.StepLaws.{steps_none, steps_alike}
 use Rattle.rules_fill.proofs.ShapeLaws.{step_made, done}
@@ -22,11 +22,22 @@ entry_at L a n i h = get_or-take n (drop a L) i 0 h ∙ get_or-drop a L i 0
 pub entries_long : (L : List ℕ) (a n : ℕ) → a + n ≤ length L → length (entries L a n) ≡ n
 entries_long L a n h = length-take-le n (drop a L) (omega (arith, length-drop a L))
 
+-- the n raised places of point y, as a slice has them
+pub raised_cut : (t : Table) (y n : ℕ) → take (2 * (y * t.width) + n - 2 * (y * t.width)) (drop (2 * (y * t.width)) t.lists.now) ≡ entries t.lists.now (2 * y * t.width) n
+raised_cut t y n =
+    let a : 2 * (y * t.width) ≡ 2 * y * t.width = omega arith in
+    let k : 2 * (y * t.width) + n - 2 * (y * t.width) ≡ n = omega arith in
+    ap₂ (λ (m b : ℕ). take m (drop b t.lists.now)) k a
+
 -- the place that entry i holds
 pub place_in : {L : List ℕ} {a n w : ℕ} → Places L a n w → {s : List ℕ} → s ≡ entries L a n → (i t : ℕ) → i < length s → t ≡ get_or s i 0 → t < w
 place_in {L} {a} {n} {w} p {s} e i t h at =
     let k : i < n = omega (arith, entries_long L a n p.long, ap (λ (q : List ℕ). length q) e) in
     omega (arith, at, ap (λ (q : List ℕ). get_or q i 0) e, entry_at L a n i k, p.within i k)
+
+-- a place has its cell among those of point y
+pub cell_in : (t : Table) (y u : ℕ) → CellsRow t y → {s : List ℕ} → s ≡ cells t y → u < t.width → u < length s
+cell_in t y u row e h = omega (arith, h, ap (λ (q : List ℕ). length q) e, entries_long t.first.now (y * t.width) t.width row)
 
 -- the wait of a cell of point y
 pub cell_of : (t : Table) (y u v : ℕ) {s : List ℕ} → s ≡ cells t y → u < t.width → v ≡ get_or s u 0 → v ≡ get_or t.first.now (y * t.width + u) 0

@@ -11,14 +11,22 @@ impl Table<'_> {
     ghost use Rattle.rules_listed.specs.Parts.{SamePart};
     ghost use Rattle.rules_listed.specs.Listed.{PropagateLent, RemoveLent, ClearLent, propagate_by, PairsRest, remove_line_by, remove_raised_by, remove_own_by, remove_other_by, remove_by, clear_by};
 
-    // Rules 1 to 3, from the raised cells of the row's point.
-    pub fn propagate_raised(&self, marks: &[u8; 256], mask: usize, by: Propagator, part: &mut Part)
-        requires propagate_lent { PropagateLent self.now marks.now mask by part.old }
+    // Rules 1 to 3, from the n raised cells of the row's point.
+    pub fn propagate_raised(
+        &self,
+        n: usize,
+        marks: &[u8; 256],
+        mask: usize,
+        by: Propagator,
+        part: &mut Part,
+    )
+        requires propagate_lent { PropagateLent self.now n marks.now mask by part.old }
         ensures cells_value { part.new.cells.now ≡ propagate_by self.now mask by part.old.cells.now }
         ensures same_part { SamePart part.old part.new }
     {
         let from = self.cells(by.from);
-        for &c in self.raised(by.from) {
+        let start = 2 * (by.from * self.width);
+        for &c in &self.lists[start..start + n] {
             let c = usize::from(c);
             let wait = propagated(marks, by, mask, c, u64::from(from[c]));
             part.raise(joined(c, by.add), wait);
@@ -103,14 +111,15 @@ impl Table<'_> {
         self.remove_by_raised(by, part);
     }
 
-    // Rule 5, at the observing point, from its raised cells.
-    pub fn clear_raised(&self, mask: usize, part: &mut Part)
-        requires clear_lent { ClearLent self.now mask part.old }
+    // Rule 5, at the observing point, from its n raised cells.
+    pub fn clear_raised(&self, n: usize, mask: usize, part: &mut Part)
+        requires clear_lent { ClearLent self.now n mask part.old }
         ensures cells_value { part.new.cells.now ≡ clear_by self.now mask part.old.point part.old.cells.now }
         ensures same_part { SamePart part.old part.new }
     {
         let own = part.own;
-        for &c in self.raised(part.point) {
+        let start = 2 * (part.point * self.width);
+        for &c in &self.lists[start..start + n] {
             let c = usize::from(c);
             if touches(mask, c) {
                 part.raise(cleared(c, mask), u64::from(own[c]));

@@ -72,7 +72,9 @@ impl<'a> Refill<'a> {
         ensures cells_value { part.new.cells.now ≡ shapes.propagate_in self.now.table.width (waits self.now) self.now.mask by.from by.avoid by.add by.up by.down part.old.cells.now }
         ensures same_part { SamePart part.old part.new }
     {
-        self.table.propagate_raised(self.marks, self.mask, by, part);
+        let n = self.table.counts[2 * by.from];
+        self.table
+            .propagate_raised(n, self.marks, self.mask, by, part);
     }
 
     // Rule 1 of plan edge i, which starts at the part's point.
@@ -223,7 +225,8 @@ impl<'a> Refill<'a> {
         if self.rows.observer(j) != part.point {
             return;
         }
-        self.table.clear_raised(digit_mask(j), part);
+        let n = self.table.counts[2 * part.point];
+        self.table.clear_raised(n, digit_mask(j), part);
     }
 
     // The rules of one parent of a link r, or of a proposition r less the links: numbered so, both have one row of rule 4 or 6.
