@@ -3,6 +3,7 @@ use mathlib.Core.Path.{◌≡◌, refl, sym, ap, ◌∙◌}
 use mathlib.Core.Bool.{Bool, true, false, cond, and-true}
 use mathlib.Core.List.{List, [], ◌∷◌, ◌++◌}
 use Prim.Native.Nat.{ℕ, zero, suc, ◌+◌, ◌*◌, ◌≤◌, ◌<◌}
+use native.Mathlib.Numerals.{add-one}
 use native.Mathlib.Omega.{arith}
 use lib.Dec.{ltb, leb}
 use lib.ListN.{length, get_or, take, length-append}
@@ -47,6 +48,15 @@ module _ (T : List ℕ) (c : ℕ) where
   pub text_no : (P : Plan) → above T c ≡ false → cell_text P T c ≡ []
   unfolding cell_text
   text_no P e = rw e refl
+
+  -- one cell more, counted
+  pub count_yes : (get_or T c 0 ≡ 0 → ⊥) → count (above T) (c + 1) ≡ count (above T) c + 1
+  unfolding count
+  count_yes h = rw (add-one c, above_yes h) refl
+
+  pub count_no : get_or T c 0 ≡ 0 → count (above T) (c + 1) ≡ count (above T) c
+  unfolding count
+  count_no h = rw (add-one c, above_no h) (omega arith)
 
 -- ---- the first cells of a table, as a list
 -- all of them fit

@@ -29,7 +29,14 @@ fn count_lines(table: &[u32], end: usize) -> usize
     requires { end ≤ length table.now }
     ensures { result ≡ count (above table.now) end }
 {
-    table[..end].iter().filter(|&&cell| cell != 0).count()
+    let mut lines = 0;
+    // No `filter` and `count`: they were not compiled to vector instructions, and took a third of a small page's time.
+    for &cell in &table[..end] {
+        if cell != 0 {
+            lines += 1;
+        }
+    }
+    lines
 }
 
 // The page's length; refused, the output is untouched.

@@ -1,11 +1,33 @@
-use Rattle.std.proofs.Common.{◌∙◌, rules, take}
-use borrow.Author.Tests.{tests}
-use Rattle.std.proofs.lemmas.Iterator.{YieldsList-from_slice}
-use Rattle.std.proofs.lemmas.Iterator.Consumers.{YieldsList-from_filter, count_from_yields_List}
-use Rattle.page.proofs.PageLaws.{above_counted}
+-- One cell more is counted at each turn; at the end all are.
+use Rattle.std.proofs.Common.{◌≡◌, ◌∙◌, ap, sym, refl, ℕ, ◌+◌, ◌<◌, arith, length-take-le}
+use Rattle.std.proofs.lemmas.List.{get_or-take}
+use Rattle.plan.specs.Counting.{count}
+use Rattle.plan.proofs.CountLaws.{count_few}
+use Rattle.page.specs.Page.{above}
+use Rattle.page.proofs.PageLaws.{count_yes, count_no}
 use Rattle.page.proofs.printing.count_lines.Goals as goal
+use Rattle.page.proofs.printing.count_lines.Goals.{then-cell-ne0, else-cell-ne0}
+
+pub loop-cell-init : goal.loop-cell-init
+unfolding count
+loop-cell-init c = refl
+
+pub overflow_add-lines : goal.overflow_add-lines
+overflow_add-lines c = record { fits = omega (arith, c.loop-cell.invariant, count_few (above c.args.table.now) c.loop-cell.cell-index, c.loop-cell-test.true, length-take-le c.args.end c.args.table.now c.requires, c.ranges.end.fits) }
+
+pub loop-cell-preserved : goal.loop-cell-preserved
+loop-cell-preserved c =
+    let T = c.args.table.now in
+    let i = c.loop-cell.cell-index in
+    let below : i < c.args.end = omega (arith, c.loop-cell-test.true, length-take-le c.args.end T c.requires) in
+    let cell = get_or-take c.args.end T i 0 below in
+    elim c.if-cell-ne0.branch [
+      | then-cell-ne0 w ↦ w.lines-is ∙ ap (λ (k : ℕ). k + 1) c.loop-cell.invariant ∙ sym (count_yes T i (λ e. w.if-cell-ne0.true (cell ∙ e)))
+      | else-cell-ne0 w ↦ w.lines-is ∙ c.loop-cell.invariant ∙ sym (count_no T i (sym cell ∙ w.if-cell-ne0.false))
+    ]
 
 pub returns : goal.returns
 returns c =
-    count_from_yields_List _ _ c.count.ensures.ran (YieldsList-from_filter _ _ (YieldsList-from_slice (take c.args.end c.args.table.now) cc) c.filter.ensures.closure (λ x b q k. search (rules, tests)))
-    ∙ above_counted c.args.table.now c.args.end c.requires
+    let l = length-take-le c.args.end c.args.table.now c.requires in
+    let e : c.loop-cell.cell-index ≡ c.args.end = omega (arith, l, c.loop-cell-test.false, c.loop-cell.auto.cell-index-end) in
+    c.loop-cell.invariant ∙ ap (count (above c.args.table.now)) e
