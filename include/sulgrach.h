@@ -109,7 +109,7 @@ extern "C" {
 #define SULGRACH_PAGE 360448
 
 /* Each call takes less stack than this, in bytes. Measured, not proved: a call that makes rounds (check, check_classes, list,
- * breaking_rows) took up to 136,744, most of it lists of cells, whatever the plan; the others took up to 3,400. */
+ * breaking_rows) took up to 136,760, most of it lists of cells, whatever the plan; the others took up to 3,400. */
 #define SULGRACH_STACK 163840
 
 /* The check of a plan, with two tables and a limit of rounds; the answer is a code. What is written:
