@@ -50,13 +50,13 @@ module _ (T : List ℕ) (c : ℕ) where
   text_no P e = rw e refl
 
   -- one cell more, counted
-  pub count_yes : (get_or T c 0 ≡ 0 → ⊥) → count (above T) (c + 1) ≡ count (above T) c + 1
+  pub line_counted : (get_or T c 0 ≡ 0 → ⊥) → count (above T) (c + 1) ≡ count (above T) c + 1
   unfolding count
-  count_yes h = rw (add-one c, above_yes h) refl
+  line_counted h = rw (add-one c, above_yes h) refl
 
-  pub count_no : get_or T c 0 ≡ 0 → count (above T) (c + 1) ≡ count (above T) c
+  pub zero_passed : get_or T c 0 ≡ 0 → count (above T) (c + 1) ≡ count (above T) c
   unfolding count
-  count_no h = rw (add-one c, above_no h) (omega arith)
+  zero_passed h = rw (add-one c, above_no h) (omega arith)
 
 -- ---- the first cells of a table, as a list
 -- all of them fit

@@ -30,6 +30,13 @@ impl PointSet {
         PointSet { bits: 0 }
     }
 
+    // The set that has a point for each bit; any number is one.
+    pub fn from_bits(bits: usize) -> Self
+        ensures { result ≡ bits }
+    {
+        PointSet { bits }
+    }
+
     // The points below n.
     pub fn below(n: usize) -> Self
         requires { n ≤ 32 }

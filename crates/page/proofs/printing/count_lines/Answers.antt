@@ -4,7 +4,7 @@ use Rattle.std.proofs.lemmas.List.{get_or-take}
 use Rattle.plan.specs.Counting.{count}
 use Rattle.plan.proofs.CountLaws.{count_few}
 use Rattle.page.specs.Page.{above}
-use Rattle.page.proofs.PageLaws.{count_yes, count_no}
+use Rattle.page.proofs.PageLaws.{line_counted, zero_passed}
 use Rattle.page.proofs.printing.count_lines.Goals as goal
 use Rattle.page.proofs.printing.count_lines.Goals.{then-cell-ne0, else-cell-ne0}
 
@@ -22,8 +22,8 @@ loop-cell-preserved c =
     let below : i < c.args.end = omega (arith, c.loop-cell-test.true, length-take-le c.args.end T c.requires) in
     let cell = get_or-take c.args.end T i 0 below in
     elim c.if-cell-ne0.branch [
-      | then-cell-ne0 w ↦ w.lines-is ∙ ap (λ (k : ℕ). k + 1) c.loop-cell.invariant ∙ sym (count_yes T i (λ e. w.if-cell-ne0.true (cell ∙ e)))
-      | else-cell-ne0 w ↦ w.lines-is ∙ c.loop-cell.invariant ∙ sym (count_no T i (sym cell ∙ w.if-cell-ne0.false))
+      | then-cell-ne0 w ↦ w.lines-is ∙ ap (λ (k : ℕ). k + 1) c.loop-cell.invariant ∙ sym (line_counted T i (λ e. w.if-cell-ne0.true (cell ∙ e)))
+      | else-cell-ne0 w ↦ w.lines-is ∙ c.loop-cell.invariant ∙ sym (zero_passed T i (sym cell ∙ w.if-cell-ne0.false))
     ]
 
 pub returns : goal.returns
