@@ -30,7 +30,7 @@ fn count_lines(table: &[u32], end: usize) -> usize
     ensures { result ≡ count (above table.now) end }
 {
     let mut lines = 0;
-    // No `filter` and `count`: they were not compiled to vector instructions, and took a third of a small page's time.
+    // No `filter` and `count`: they were not compiled to vector instructions, and took a fifth of the time of pages of few lines.
     for &cell in &table[..end] {
         if cell != 0 {
             lines += 1;
