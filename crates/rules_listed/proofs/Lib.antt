@@ -2,7 +2,7 @@ pub mod Counting
 pub mod Having
 mod Noting
 pub mod Going
-mod Lending
+pub mod Lending
 pub mod Owning
 pub mod Passing
 mod Removing

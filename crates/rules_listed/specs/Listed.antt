@@ -12,14 +12,14 @@ use Rattle.rules_fill.specs.Shapes.{touches, cleared, removed, remove_step, prop
 use Rattle.rules_listed.specs.declared.part.Part.{Part}
 use Rattle.rules_listed.specs.declared.table.Table.{Table}
 use Rattle.rules_listed.specs.Places.{Places, listed}
-use Rattle.rules_listed.specs.Rows.{CellsRow, PointRows}
+use Rattle.rules_listed.specs.Rows.{CellsRow, RaisedRow, PointRows}
 use Rattle.rules_listed.specs.Parts.{PartOf}
 use Rattle.rules_listed.specs.Rests.{PropagateRest, RemoveRest, ClearRest}
 
 -- ---- rules 1 to 3
 -- the marks, the bits of a label, waits to which a duration can be added in 32 bits, those of the row's point and its n raised places, and a part of one of the
 -- table's points: the bits that the row adds make a place with any, and lines of the row's point that are not raised give no more than the part holds
-pub record PropagateLent (t : Table) (n : ℕ) (marks : List ℕ) (mask : ℕ) (by : Propagator) (p : Part) : Type 0 where
+pub record PropagateRaisedLent (t : Table) (n : ℕ) (marks : List ℕ) (mask : ℕ) (by : Propagator) (p : Part) : Type 0 where
   pub marked : Marks marks
   pub mask_small : mask < 256
   pub bound : AtMost 4000000000 t.first.now
@@ -30,15 +30,33 @@ pub record PropagateLent (t : Table) (n : ℕ) (marks : List ℕ) (mask : ℕ) (
   pub part_of : PartOf t p
   pub rest : PropagateRest t.width t.first.now t.lists.now n mask by p.cells.now
 
+-- the same, where the table counts these places
+pub record PropagateLent (t : Table) (marks : List ℕ) (mask : ℕ) (by : Propagator) (p : Part) : Type 0 where
+  pub marked : Marks marks
+  pub mask_small : mask < 256
+  pub bound : AtMost 4000000000 t.first.now
+  pub down_small : by.down < 65536
+  pub from_in : CellsRow t by.from
+  pub raised : RaisedRow t by.from
+  pub joins : (u : ℕ) → u < t.width → bit_or u by.add < t.width
+  pub part_of : PartOf t p
+  pub rest : PropagateRest t.width t.first.now t.lists.now (get_or t.counts.now (2 * by.from) 0) mask by p.cells.now
+
 abbrev pub propagate_by : Table → ℕ → Propagator → List ℕ → List ℕ
 propagate_by t mask by = propagate_in t.width t.first.now mask by.from by.avoid by.add by.up by.down
 
 -- ---- rule 5
 -- a part of one of the table's points, its n raised places, and what its other lines give is no more than the part holds
-pub record ClearLent (t : Table) (n mask : ℕ) (p : Part) : Type 0 where
+pub record ClearRaisedLent (t : Table) (n mask : ℕ) (p : Part) : Type 0 where
   pub part_of : PartOf t p
   pub raised : Places t.lists.now (2 * p.point * t.width) n t.width
   pub rest : ClearRest t.width t.first.now t.lists.now n mask p.point p.cells.now
+
+-- the same, where the table counts these places
+pub record ClearLent (t : Table) (mask : ℕ) (p : Part) : Type 0 where
+  pub part_of : PartOf t p
+  pub raised : RaisedRow t p.point
+  pub rest : ClearRest t.width t.first.now t.lists.now (get_or t.counts.now (2 * p.point) 0) mask p.point p.cells.now
 
 abbrev pub clear_by : Table → ℕ → ℕ → List ℕ → List ℕ
 clear_by t mask x = clear_in t.width t.first.now mask x

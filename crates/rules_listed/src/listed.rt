@@ -9,7 +9,7 @@ use rules_fill::{Propagator, Remover, cleared, joined, propagated, removed, touc
 
 impl Table<'_> {
     ghost use Rattle.rules_listed.specs.Parts.{SamePart};
-    ghost use Rattle.rules_listed.specs.Listed.{PropagateLent, RemoveLent, ClearLent, propagate_by, PairsRest, remove_line_by, remove_raised_by, remove_own_by, remove_other_by, remove_by, clear_by};
+    ghost use Rattle.rules_listed.specs.Listed.{PropagateRaisedLent, RemoveLent, ClearRaisedLent, propagate_by, PairsRest, remove_line_by, remove_raised_by, remove_own_by, remove_other_by, remove_by, clear_by};
 
     // Rules 1 to 3, from the n raised cells of the row's point.
     pub fn propagate_raised(
@@ -20,7 +20,7 @@ impl Table<'_> {
         by: Propagator,
         part: &mut Part,
     )
-        requires propagate_lent { PropagateLent self.now n marks.now mask by part.old }
+        requires propagate_lent { PropagateRaisedLent self.now n marks.now mask by part.old }
         ensures cells_value { part.new.cells.now ≡ propagate_by self.now mask by part.old.cells.now }
         ensures same_part { SamePart part.old part.new }
     {
@@ -113,7 +113,7 @@ impl Table<'_> {
 
     // Rule 5, at the observing point, from its n raised cells.
     pub fn clear_raised(&self, n: usize, mask: usize, part: &mut Part)
-        requires clear_lent { ClearLent self.now n mask part.old }
+        requires clear_lent { ClearRaisedLent self.now n mask part.old }
         ensures cells_value { part.new.cells.now ≡ clear_by self.now mask part.old.point part.old.cells.now }
         ensures same_part { SamePart part.old part.new }
     {

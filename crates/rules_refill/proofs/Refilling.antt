@@ -1,10 +1,9 @@
 -- What a fill from raised cells is lent has what each of its calls asks for.
 use mathlib.Core.Path.{◌≡◌, refl, ap, ◌∙◌}
 use mathlib.Core.List.{List}
-use Prim.Native.Nat.{ℕ, ◌*◌, ◌≤◌, ◌<◌}
+use Prim.Native.Nat.{ℕ, ◌≤◌, ◌<◌}
 use native.Mathlib.Omega.{arith}
 use lib.Bits.{or_zero_l}
-use lib.ListN.{get_or}
 use Rattle.rules_rows.specs.declared.rows.Rows.{Rows}
 use Rattle.plan.specs.Plan.{Plan, width}
 use Rattle.plan.specs.Layout.{plan_of}
@@ -107,7 +106,7 @@ module _ (r : Refill) {p : Part} (of : PartIn r p) where
   abbrev P : Plan
   P = whole r
 
-  pub propagate_lends : (by : Propagator) → RowIn r p.point by → PropagateLent r.table (get_or r.table.counts.now (2 * by.from) 0) r.marks.now r.mask by p
+  pub propagate_lends : (by : Propagator) → RowIn r p.point by → PropagateLent r.table r.marks.now r.mask by p
   propagate_lends by k =
       let lent = lent_of r of in
       let n = noted_of of.part_of in
@@ -119,7 +118,7 @@ module _ (r : Refill) {p : Part} (of : PartIn r p) where
         down_small = k.down_small;
         bound = lent.bound;
         from_in = table.cells_row r by.from k.from_in;
-        raised = (table.point_rows r by.from k.from_in).raised.places;
+        raised = (table.point_rows r by.from k.from_in).raised;
         joins = l.joins;
         part_of = of.part_of;
         rest = propagate_rest P r.table.first.now r.table.lists.now r.table.counts.now p.point r.table.width lent.numbers.width_is p.cells.now n.no_lower _ r.mask by refl k;
@@ -155,12 +154,12 @@ module _ (r : Refill) {p : Part} (of : PartIn r p) where
         ),
       )
 
-  pub clear_lends : (j : ℕ) → j < (plan_of r.plan.now).propositions → (plan_of r.plan.now).observer j ≡ p.point → (m : ℕ) → m ≡ digit_mask j → ClearLent r.table (get_or r.table.counts.now (2 * p.point) 0) m p
+  pub clear_lends : (j : ℕ) → j < (plan_of r.plan.now).propositions → (plan_of r.plan.now).observer j ≡ p.point → (m : ℕ) → m ≡ digit_mask j → ClearLent r.table m p
   clear_lends j h mine m g =
       let lent = lent_of r of in
       let t = r.table in
       record {
         part_of = of.part_of;
-        raised = (table.point_rows r p.point lent.point_in).raised.places;
+        raised = (table.point_rows r p.point lent.point_in).raised;
         rest = rw g (clear_rest P t.first.now t.lists.now t.counts.now p.point t.width lent.numbers.width_is p.cells.now (noted_of of.part_of).no_lower _ (digit_mask j) refl (λ t' k. one_covered P t.first.now t.lists.now t.counts.now p.point lent.point_in lent.lists_are.covered (OwnLiteral j) h (λ z. z) k (own_gives P t.first.now p.point j h mine t')));
       }
